@@ -1,0 +1,4 @@
+pub mod Written
+pub mod Painted
+pub mod Runs
+pub mod Parts

@@ -1,0 +1,81 @@
+-- Laws of runs of words, for the loops over a row. Assumes nothing.
+use mathlib.Core.Path.{_≡_, refl, sym, _∙_, ap}
+use mathlib.Core.Bool.{Bool, true, cond}
+use mathlib.Core.List.{List}
+use Prim.Native.Nat.{ℕ, zero, suc, _+_, _*_, _-_, _/_, _%_, _≤_, _<_}
+use native.Mathlib.Decide.{ℕ-discrete}
+use native.Mathlib.Omega.{arith}
+use lib.ListN.{length, set, getD}
+use Rattle.laws.specs.Interval.{between}
+use Rattle.laws.proofs.Interval.{between-yes, between-no, between-cong, bounds}
+use Rattle.words.specs.Words.{written, painted, word, byteOf}
+use Rattle.words.proofs.Written.{written-none, written-same, written-set}
+use Rattle.words.proofs.Painted.{painted-none, painted-same, painted-set, painted-cong, word-painted, word-kept, word-lt, low-byte, high-byte}
+
+-- a run of bytes begins, and grows by one at its end
+pub write-first : (f : ℕ → ℕ) (m : List ℕ) (a : ℕ) → m ≡ written (between a (a + 0)) f m
+write-first f m a = written-none (between a (a + 0)) f m (λ k lt. between-no a (a + 0) k (omega arith))
+
+pub write-next : (f : ℕ → ℕ) (m₀ : List ℕ) {m : List ℕ} (a k x : ℕ) → a + k < length m₀ → m ≡ written (between a (a + k)) f m₀ → x ≡ f (a + k) → set m (a + k) x ≡ written (between a (a + (k + 1))) f m₀
+write-next f m₀ a k x room e g =
+    rw (e, g)
+    (written-set (between a (a + k)) (between a (a + (k + 1))) f m₀ (a + k) room (between-yes a (a + (k + 1)) (a + k) (omega arith) (omega arith))
+    (λ j n. between-cong a (a + (k + 1)) j a (a + k) j (omega arith) (omega arith)))
+
+-- a run of words begins, and grows by one at its end
+pub paint-first : (v : ℕ → ℕ) (m : List ℕ) (a : ℕ) → m ≡ painted (between a (a + 0)) v m
+paint-first v m a = painted-none (between a (a + 0)) v m (λ i lt. between-no a (a + 0) i (omega arith))
+
+pub paint-next : (v : ℕ → ℕ) (m₀ : List ℕ) {m : List ℕ} (a k x : ℕ) → 2 * (a + k) + 1 < length m₀ → m ≡ painted (between a (a + k)) v m₀ → x ≡ v (a + k) → set (set m (2 * (a + k)) (x % 256)) (2 * (a + k) + 1) (x / 256) ≡ painted (between a (a + (k + 1))) v m₀
+paint-next v m₀ a k x room e g =
+    rw (e, g)
+    (painted-set (between a (a + k)) (between a (a + (k + 1))) v m₀ (a + k) room (between-yes a (a + (k + 1)) (a + k) (omega arith) (omega arith))
+    (λ j n. between-cong a (a + (k + 1)) j a (a + k) j (omega arith) (omega arith)))
+
+-- the word at the run's end is still the one before the run
+pub next-kept : (v : ℕ → ℕ) (m₀ : List ℕ) {m : List ℕ} (a k : ℕ) → 2 * (a + k) + 1 < length m₀ → m ≡ painted (between a (a + k)) v m₀ → word m (a + k) ≡ word m₀ (a + k)
+next-kept v m₀ a k room e = rw e (word-kept (between a (a + k)) v m₀ (a + k) room (between-no a (a + k) (a + k) (omega arith)))
+
+-- bytes 2d to 2 (d + n) are words d to d + n
+run-bytes : (d n k : ℕ) → between (2 * d) (2 * d + 2 * n) k ≡ between d (d + n) (k / 2)
+run-bytes d n k = between-cong (2 * d) (2 * d + 2 * n) k d (d + n) (k / 2) (omega arith) (omega arith)
+
+-- a run of zero bytes is a run of zero words
+pub zeros-painted : (d n : ℕ) (m : List ℕ) → written (between (2 * d) (2 * d + 2 * n)) (λ _. 0) m ≡ painted (between d (d + n)) (λ _. 0) m
+unfolding painted
+zeros-painted d n m =
+    written-same (between (2 * d) (2 * d + 2 * n)) (λ k. between d (d + n) (k / 2)) (λ _. 0) (λ k. byteOf 0 (k % 2)) m (λ k lt. run-bytes d n k) (λ k lt t. by (k % 2))
+  where
+    by : (b : ℕ) → 0 ≡ byteOf 0 b
+    by zero = refl
+    by (suc b) = refl
+
+-- a run of copied bytes is a run of copied words
+pub copy-painted : (d s n : ℕ) (src m : List ℕ) → (0 < n → (k : ℕ) → getD src k 0 < 256) → written (between (2 * d) (2 * d + 2 * n)) (λ k. getD src (2 * s + (k - 2 * d)) 0) m ≡ painted (between d (d + n)) (λ i. word src (s + (i - d))) m
+unfolding painted
+copy-painted d s n src m small =
+    written-same (between (2 * d) (2 * d + 2 * n)) (λ k. between d (d + n) (k / 2)) (λ k. getD src (2 * s + (k - 2 * d)) 0) (λ k. byteOf (word src (s + (k / 2 - d))) (k % 2)) m (λ k lt. run-bytes d n k)
+    (λ k lt t. let h = bounds d (d + n) (k / 2) t in by k (h .0) (small (omega arith)) (ℕ-discrete (k % 2) 0))
+  where
+    by : (k : ℕ) → d ≤ k / 2 → ((j : ℕ) → getD src j 0 < 256) → Dec (k % 2 ≡ 0) → getD src (2 * s + (k - 2 * d)) 0 ≡ byteOf (word src (s + (k / 2 - d))) (k % 2)
+    by k h bytes (yes e) =
+        let at : 2 * s + (k - 2 * d) ≡ 2 * (s + (k / 2 - d)) = omega arith in
+        rw (e, at) (low-byte src (s + (k / 2 - d)) (bytes (2 * (s + (k / 2 - d)))))
+    by k h bytes (no u) =
+        let e : k % 2 ≡ 1 = omega arith in
+        let at : 2 * s + (k - 2 * d) ≡ 2 * (s + (k / 2 - d)) + 1 = omega arith in
+        rw (e, at) (high-byte src (s + (k / 2 - d)) (bytes (2 * (s + (k / 2 - d)))))
+
+-- a row read into a buffer has the words that it was read from
+pub buffered : (n s : ℕ) (m row₀ : List ℕ) {row : List ℕ} → ((k : ℕ) → getD m k 0 < 256) → 2 * n ≤ length row₀ → row ≡ painted (between 0 (0 + n)) (λ i. word m (s + (i - 0))) row₀ → (k : ℕ) → k < n → word row (0 + k) ≡ word m (s + k)
+buffered n s m row₀ small room e k h =
+    rw e
+    (word-painted (between 0 (0 + n)) (λ i. word m (s + (i - 0))) row₀ (0 + k) (omega arith) (word-lt m (s + (0 + k - 0)) (small (2 * (s + (0 + k - 0)))) (small (2 * (s + (0 + k - 0)) + 1)))
+    ∙ ap (λ (t : Bool). cond t (word m (s + (0 + k - 0))) (word row₀ (0 + k))) (between-yes 0 (0 + n) (0 + k) (omega arith) (omega arith))
+    ∙ ap (word m) (omega arith))
+
+-- Whatever is made of a row that was read into a buffer, and of the word there, is made of the row itself.
+pub through-buffer : (f : ℕ → ℕ → ℕ) (d s n : ℕ) (m row₀ : List ℕ) {row : List ℕ} → ((k : ℕ) → getD m k 0 < 256) → 2 * n ≤ length row₀ → row ≡ painted (between 0 (0 + n)) (λ i. word m (s + (i - 0))) row₀ → painted (between d (d + n)) (λ i. f (word row (0 + (i - d))) (word m i)) m ≡ painted (between d (d + n)) (λ i. f (word m (s + (i - d))) (word m i)) m
+through-buffer f d s n m row₀ {row} small room e =
+    painted-same (between d (d + n)) (between d (d + n)) (λ i. f (word row (0 + (i - d))) (word m i)) (λ i. f (word m (s + (i - d))) (word m i)) m (λ i lt. refl)
+    (λ i lt t. let h = bounds d (d + n) i t in ap (λ (x : ℕ). f x (word m i)) (buffered n s m row₀ small room e (i - d) (omega arith)))
