@@ -1,0 +1,26 @@
+-- `rop3::uses_src` meets its contract: one test over all 256 tables. Assumes nothing.
+use Prim.Native.Nat.{ℕ, _/_}
+use Rattle.laws.proofs.Test.{each, agree, agreed}
+use Rattle.rop3.specs.Rop3.{usesSrc}
+use lib.Bits.{bitAnd, bitXor}
+use lib.Dec.{eqb}
+use mathlib.Core.Bool.{Bool, not}
+use mathlib.Core.Path.{_≡_, refl, _∙_}
+use native.Mathlib.Omega.{arith}
+use borrow.Author.Needs.{needs}
+use Rattle.rop3.proofs.uses_src.Statement.{statement}
+use Rattle.rop3.proofs.uses_src.Tie as tie
+
+abbrev code : ℕ → Bool
+code t = not (eqb (bitAnd (bitXor t (t / 4)) 51) 0)
+
+table-requires : tie.Need-table-requires
+table-requires c κs = search needs
+
+returns : tie.Need-returns
+returns c = 
+    let t = c .table .result in
+    agreed (code t) (usesSrc t) (each 256 (λ n. agree (code n) (usesSrc n)) refl t (omega (arith, c .table .ensures))) ∙ rw (c .table .ensures)
+
+pub uses-src-spec : {M : Type 1} → statement M
+uses-src-spec = tie.close (tie.spec table-requires returns)
