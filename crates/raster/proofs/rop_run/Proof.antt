@@ -1,0 +1,35 @@
+-- `raster::rop_run` meets its contract. Assumes nothing.
+use Prim.Native.Nat.{_+_}
+use Rattle.laws.specs.Interval.{between}
+use Rattle.raster.proofs.Plain.{pattern-ropped}
+use mathlib.Core.Path.{_∙_}
+use native.Mathlib.Omega.{arith}
+use borrow.Author.Needs.{needs}
+use Rattle.raster.proofs.rop_run.Statement.{statement}
+use Rattle.raster.proofs.rop_run.Tie as tie
+
+fill-run-requires : tie.Need-fill-run-requires
+fill-run-requires c κs = search needs
+
+combine-run-requires : tie.Need-combine-run-requires
+combine-run-requires c κs = search needs
+
+same-length : tie.Need-same-length
+same-length c = search needs
+
+returns : tie.Need-returns
+returns c = 
+    let s = c .before .before .before .before .before .before in
+    let a = s .args in
+    c .before .before .fill-run .ensures ∙ pattern-ropped (a .table) (between (a .d) (a .d + a .n)) (a .pat) (λ _. 0) (a .mem .now) (c .before .before .before .before .if1 .taken) (omega (arith, s .fits .pat))
+
+same-length-2 : tie.Need-same-length-2
+same-length-2 c = search needs
+
+returns-2 : tie.Need-returns-2
+returns-2 c = search needs
+
+pub rop-run-spec : {M : Type 1} → statement M
+rop-run-spec =
+    tie.close
+    (tie.spec fill-run-requires combine-run-requires same-length returns same-length-2 returns-2)
