@@ -8,6 +8,7 @@ ghost use Rattle.words.specs.Words.{painted, word};
 ghost use Rattle.raster.specs.Raster.{ropped};
 
 const PATCOPY_TABLE: u8 = 0xF0;
+
 const SRCCOPY_TABLE: u8 = 0xCC;
 
 // Pattern and destination under a table, at the n words from d on. The source operand is 0.
@@ -57,25 +58,13 @@ fn combine_run(mem: &mut [u8], d: usize, n: usize, table: u8, pat: u16)
 }
 
 // The loop of rop_run_from for any table.
-fn combine_run_from(
-    dst: &mut [u8],
-    src: &[u8],
-    d: usize,
-    s: usize,
-    n: usize,
-    table: u8,
-    pat: u16,
-)
+fn combine_run_from(dst: &mut [u8], src: &[u8], d: usize, s: usize, n: usize, table: u8, pat: u16)
     requires { ⌜ (2 * (d + n) ≤ length (now dst)) × (2 * (s + n) ≤ length (now src)) ⌝ }
     ensures { λ _. ⌜ now (dst .exit) ≡ painted (between d (d + n)) (ropped table pat (λ i. word (now (src .entry)) (s + (i - d))) (now (dst .entry))) (now (dst .entry)) ⌝ }
 {
     for k in 0..n {
         let from = words::word_at(src, s + k);
         let old = words::word_at(dst, d + k);
-        words::set_word(
-            dst,
-            d + k,
-            rop3::apply_table(table, pat, from, old),
-        );
+        words::set_word(dst, d + k, rop3::apply_table(table, pat, from, old));
     }
 }

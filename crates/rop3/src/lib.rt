@@ -5,19 +5,33 @@ ghost use Prim.Native.Nat.{ℕ, _+_, _*_, _<_};
 ghost use Rattle.rop3.specs.Rop3.{bit, pick, tableOf, applied, usesSrc, usesDst};
 
 pub const BLACKNESS: u32 = 0x0000_0042;
+
 pub const NOTSRCERASE: u32 = 0x0011_0000;
+
 pub const NOTSRCCOPY: u32 = 0x0033_0008;
+
 pub const SRCERASE: u32 = 0x0044_0328;
+
 pub const DSTINVERT: u32 = 0x0055_0009;
+
 pub const PATINVERT: u32 = 0x005A_0049;
+
 pub const SRCINVERT: u32 = 0x0066_0046;
+
 pub const SRCAND: u32 = 0x0088_00C6;
+
 pub const MERGEPAINT: u32 = 0x00BB_0226;
+
 pub const MERGECOPY: u32 = 0x00C0_00CA;
+
 pub const SRCCOPY: u32 = 0x00CC_0020;
+
 pub const SRCPAINT: u32 = 0x00EE_0086;
+
 pub const PATCOPY: u32 = 0x00F0_0021;
+
 pub const PATPAINT: u32 = 0x00FB_0A09;
+
 pub const WHITENESS: u32 = 0x00FF_0062;
 
 // The table byte of a code.
@@ -54,11 +68,7 @@ pub fn apply(rop: u32, pat: u16, src: u16, dst: u16) -> u16
 pub fn apply_table(table: u8, pat: u16, src: u16, dst: u16) -> u16
     ensures { λ r. ⌜ r ≡ applied table pat src dst ⌝ }
 {
-    mux(
-        pat,
-        by_src(table / 16, src, dst),
-        by_src(table, src, dst),
-    )
+    mux(pat, by_src(table / 16, src, dst), by_src(table, src, dst))
 }
 
 // The four entries of a table of S and D.

@@ -18,7 +18,7 @@ same-length : tie.Need-same-length
 same-length c = search needs
 
 returns : tie.Need-returns
-returns c = 
+returns c =
     let s = c .before .before .before .before .before .before in
     let a = s .args in
     c .before .before .fill-run .ensures ∙ pattern-ropped (a .table) (between (a .d) (a .d + a .n)) (a .pat) (λ _. 0) (a .mem .now) (c .before .before .before .before .if1 .taken) (omega (arith, s .fits .pat))

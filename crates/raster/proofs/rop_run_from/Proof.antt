@@ -20,7 +20,7 @@ same-length : tie.Need-same-length
 same-length c = search needs
 
 returns : tie.Need-returns
-returns c = 
+returns c =
     let a = c .before .before .before .before .before .before .before .args in
     let bytes = c .before .before .before .before .before .shared-slice-known .given in
     c .before .before .copy-run .ensures

@@ -24,7 +24,7 @@ same-length : tie.Need-same-length
 same-length c = search needs
 
 returns : tie.Need-returns
-returns c = 
+returns c =
     let a = c .before .before .before .before .before .before .before .before .before .before .args in
     c .before .before .rop-run-from .ensures
     ∙ through-buffer (applied (a .table) (a .pat)) (a .d) (a .s) (a .n) (a .mem .now) (replicate 8192 0) (λ k. omega (arith, c .before .before .before .before .before .before .before .before .before .slice-known .given k)) (search needs)

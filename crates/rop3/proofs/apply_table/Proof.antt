@@ -19,7 +19,7 @@ mux-requires c κs = search needs
 
 returns : tie.Need-returns
 unfolding applied
-returns c = 
+returns c =
     let a = c .before .before .before .args in
     from-bits 16 (c .mux .result) (λ n. result (a .table) (bit (a .pat) n) (bit (a .src) n) (bit (a .dst) n)) (omega (arith, c .mux .ok))
     (λ n l. c .mux .ensures n

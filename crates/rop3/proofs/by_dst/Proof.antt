@@ -18,7 +18,7 @@ mux-requires : tie.Need-mux-requires
 mux-requires c κs = search needs
 
 returns : tie.Need-returns
-returns c = 
+returns c =
     let a = c .before .before .before .args in
     λ n l. c .mux .ensures n
     ∙ rw (c .before .before .spread .ensures, c .before .spread2 .ensures, spread-bit (a .table / 2 % 2) n (omega arith) l, spread-bit (a .table % 2) n (omega arith) l)

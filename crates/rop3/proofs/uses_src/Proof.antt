@@ -18,7 +18,7 @@ table-requires : tie.Need-table-requires
 table-requires c κs = search needs
 
 returns : tie.Need-returns
-returns c = 
+returns c =
     let t = c .table .result in
     agreed (code t) (usesSrc t) (each 256 (λ n. agree (code n) (usesSrc n)) refl t (omega (arith, c .table .ensures))) ∙ rw (c .table .ensures)
 

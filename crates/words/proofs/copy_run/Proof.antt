@@ -47,7 +47,7 @@ loop-less : tie.Need-loop-less Inv-loop μ-loop
 loop-less c = omega arith
 
 loop-again : tie.Need-loop-again Inv-loop μ-loop
-loop-again c = 
+loop-again c =
     let l = c .before .before .loop in
     let a = c .before .before .before .args in (
       write-next (λ j. getD (a .src .now) (2 * a .s + (j - 2 * a .d)) 0) (a .dst .now) (2 * a .d) (l .k) (getD (a .src .now) (2 * a .s + l .k) 0) (omega arith) (l .inv .0) (ap (λ (j : ℕ). getD (a .src .now) j 0) (omega arith)),

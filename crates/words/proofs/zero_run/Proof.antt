@@ -38,7 +38,7 @@ loop-less : tie.Need-loop-less Inv-loop μ-loop
 loop-less c = omega arith
 
 loop-again : tie.Need-loop-again Inv-loop μ-loop
-loop-again c = 
+loop-again c =
     let l = c .before .loop in
     let a = c .before .before .args in
     (write-next (λ _. 0) (a .mem .now) (2 * a .d) (l .k) 0 (omega arith) (l .inv .0) refl, (simp length-set (l .inv .1 .0), omega arith))

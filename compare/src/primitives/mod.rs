@@ -1,0 +1,22 @@
+//! The drawing primitives: the cases of docs/primitive-cases.md on the original.
+
+mod case;
+mod drawing;
+mod original;
+mod random;
+mod run;
+mod sample;
+mod script;
+mod tally;
+
+pub use drawing::drawing;
+pub use run::run;
+pub use sample::sample;
+pub use script::answers;
+
+/// A random script's bytes and the tally of its cases.
+pub fn cases(seed: u64, count: u64) -> (Vec<u8>, tally::Tally) {
+    let (mut script, mut tally) = (script::Script::new(), tally::Tally::default());
+    random::add(&mut script, seed, count, random::ALL, &mut tally);
+    (script.bytes(), tally)
+}

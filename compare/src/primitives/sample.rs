@@ -1,0 +1,150 @@
+//! The fixed sample that is replayed at every change.
+
+use super::case::Case;
+use super::random::{self, NAMED_CODES};
+use super::script::Script;
+use super::tally::Tally;
+use crate::rng::Rng;
+
+/// Patterns, sources and destinations: each of the eight combinations alone,
+/// all of them beside each other, and words without a pattern to them.
+const OPERANDS: [[u16; 3]; 16] = [
+    [0x0000, 0x0000, 0x0000],
+    [0x0000, 0x0000, 0xFFFF],
+    [0x0000, 0xFFFF, 0x0000],
+    [0x0000, 0xFFFF, 0xFFFF],
+    [0xFFFF, 0x0000, 0x0000],
+    [0xFFFF, 0x0000, 0xFFFF],
+    [0xFFFF, 0xFFFF, 0x0000],
+    [0xFFFF, 0xFFFF, 0xFFFF],
+    [0x00FF, 0x0F0F, 0x3333],
+    [0x0F0F, 0x3333, 0x5555],
+    [0xAAAA, 0xCCCC, 0xF0F0],
+    [0xF800, 0x07E0, 0x001F],
+    [0x8001, 0x4002, 0xC003],
+    [0x1234, 0x5678, 0x9ABC],
+    [0xDEF0, 0x0FED, 0xCBA9],
+    [0x8765, 0x4321, 0xBEEF],
+];
+
+/// Channel values at which a bit that is kept changes; every three of them.
+const CHANNELS: [u32; 8] = [0, 4, 7, 8, 127, 128, 252, 255];
+/// More of them, tried one channel at a time.
+const MORE_CHANNELS: [u32; 9] = [1, 3, 131, 132, 191, 192, 247, 248, 251];
+
+pub fn sample() -> (Script, Tally) {
+    let mut cases = Vec::new();
+    cases.extend((0..=255).map(|block| Case::Sweep { block }));
+    cases.extend((0..=94).map(|index| Case::Glyph { index }));
+    packing(&mut cases);
+    words(&mut cases);
+    raster(&mut cases);
+    examples(&mut cases);
+    let (mut script, mut tally) = (Script::new(), Tally::default());
+    for case in &cases {
+        script.push(*case, &mut tally);
+    }
+    assert_eq!(script.cases, cases, "the original has an answer to each of these");
+    random::add(&mut script, 1, 480, random::DRAWING, &mut tally);
+    (script, tally)
+}
+
+fn packing(cases: &mut Vec<Case>) {
+    let mut pack = |colorref| cases.push(Case::Pack { colorref });
+    for r in CHANNELS {
+        for g in CHANNELS {
+            for b in CHANNELS {
+                pack(b << 16 | g << 8 | r);
+            }
+        }
+    }
+    for value in MORE_CHANNELS {
+        for shift in [0, 8, 16] {
+            pack(value << shift);
+            pack(0x00FF_FFFF & !(0xFF << shift) | value << shift);
+        }
+    }
+    pack(0x00C0_C0C0);
+    pack(0xFF00_0000);
+    let mut rng = Rng::new(1);
+    for _ in 0..64 {
+        pack(rng.next() as u32 | 1 << 31);
+    }
+}
+
+/// Single words, beside the sweeps that go through all of them.
+fn words(cases: &mut Vec<Case>) {
+    let words = [0x0000, 0xFFFF, 0x8410, 0x7BEF, 0x0020, 0xF800, 0x07E0, 0x001F];
+    cases.extend(words.map(|word| Case::Widen { word }));
+    cases.extend([0x0200, 0x0000, 0x7FFF, 0x8000, 0xFFFF].map(|word| Case::From555 { word }));
+    cases.extend([0x0420, 0x0020, 0x07E0, 0xFFFF].map(|word| Case::To555 { word }));
+}
+
+/// Every table and every named code with all operands; then codes whose bits
+/// outside the table differ.
+fn raster(cases: &mut Vec<Case>) {
+    let mut apply = |code, [p, s, d]: [u16; 3]| cases.push(Case::Raster { code, p, s, d });
+    for code in (0..256).map(|table| table << 16).chain(NAMED_CODES) {
+        for operands in OPERANDS {
+            apply(code, operands);
+        }
+    }
+    for code in NAMED_CODES {
+        for other in [0x8000_0000, 0x4000_0000, 0x0100_0000, 0x0000_0001, 0x0000_FFFF] {
+            apply(code ^ other, OPERANDS[8]);
+        }
+    }
+    let mut rng = Rng::new(2);
+    for _ in 0..256 {
+        let operands = [0; 3].map(|_: u16| rng.next() as u16);
+        apply(rng.next() as u32, operands);
+    }
+}
+
+/// Small pictures that can be checked by hand.
+fn examples(cases: &mut Vec<Case>) {
+    let (copy, paint) = (0x00CC_0020, 0x00F0_0021);
+    let blit = |dx, dy, sx, sy, w, h| Case::Blit {
+        src_w: 3,
+        src_h: 3,
+        seed: 2,
+        dx,
+        dy,
+        sx,
+        sy,
+        w,
+        h,
+        code: copy,
+        pattern: 0,
+    };
+    let fill = |x, y, w, h| Case::Fill { x, y, w, h, code: paint, pattern: 0xF800 };
+    let row = |target, source, count| Case::RowBlit {
+        row: 0,
+        target,
+        source,
+        count,
+        code: copy,
+        pattern: 0,
+    };
+    cases.extend([
+        // On a fresh surface, 1 by 1 and black.
+        fill(0, 0, 1, 1),
+        Case::Surface { width: 4, height: 3, seed: 0 },
+        blit(-1, 1, 0, 0, 3, 3),
+        blit(0, 0, -1, 1, 3, 3),
+        fill(0, 0, i32::MAX, 1),
+        fill(4, 0, 1, 3),
+        fill(1, 1, 0, 1),
+        fill(-5, -5, 20, 20),
+        // Targets later, earlier, the same, none.
+        Case::Surface { width: 3, height: 1, seed: 1 },
+        row(1, 0, 2),
+        row(0, 1, 2),
+        row(0, 0, 3),
+        row(3, 0, 0),
+        // One column of a character.
+        Case::Surface { width: 4, height: 8, seed: 0 },
+        Case::Character { x: -4, y: 0, unit: b'A', color: 0xFFFF },
+        Case::Character { x: 0, y: 0, unit: 0x7F, color: 0xFFFF },
+    ]);
+}

@@ -1,0 +1,46 @@
+// Numbers in a byte slice, most significant byte first; signed ones are two's complement. A caller owes the bytes: it tests
+// the length of what it reads once, and then takes number after number.
+ghost use mathlib.Core.Path.{_≡_};
+ghost use Prim.Native.Nat.{_+_, _≤_};
+ghost use lib.ListN.{length};
+ghost use Rattle.bigendian.specs.BigEndian.{be16, be32, signed16, signed32};
+
+// The unsigned number in the two bytes from `at` on, which the caller owes.
+pub fn read_u16(s: &[u8], at: usize) -> u16
+    requires { ⌜ at + 2 ≤ length (now s) ⌝ }
+    ensures { λ r. ⌜ r ≡ be16 (now (s .entry)) at ⌝ }
+{
+    256 * (s[at] as u16) + (s[at + 1] as u16)
+}
+
+// The unsigned number in the four bytes from `at` on, which the caller owes.
+pub fn read_u32(s: &[u8], at: usize) -> u32
+    requires { ⌜ at + 4 ≤ length (now s) ⌝ }
+    ensures { λ r. ⌜ r ≡ be32 (now (s .entry)) at ⌝ }
+{
+    65536 * (read_u16(s, at) as u32) + (read_u16(s, at + 2) as u32)
+}
+
+// The signed number in the two bytes from `at` on, which the caller owes.
+pub fn read_i16(s: &[u8], at: usize) -> i32
+    requires { ⌜ at + 2 ≤ length (now s) ⌝ }
+    ensures { λ r. ⌜ r ≡ signed16 (be16 (now (s .entry)) at) ⌝ }
+{
+    let n = read_u16(s, at);
+    if n < 0x8000 {
+        return n as i32;
+    }
+    ((n as i64) - 0x1_0000) as i32
+}
+
+// The signed number in the four bytes from `at` on, which the caller owes.
+pub fn read_i32(s: &[u8], at: usize) -> i32
+    requires { ⌜ at + 4 ≤ length (now s) ⌝ }
+    ensures { λ r. ⌜ r ≡ signed32 (be32 (now (s .entry)) at) ⌝ }
+{
+    let n = read_u32(s, at);
+    if n < 0x8000_0000 {
+        return n as i32;
+    }
+    ((n as i64) - 0x1_0000_0000) as i32
+}

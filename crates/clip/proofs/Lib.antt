@@ -1,0 +1,3 @@
+pub mod Integer
+pub mod Clip
+pub mod Blit
