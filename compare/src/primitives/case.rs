@@ -6,6 +6,8 @@ use crate::number::Number;
 
 /// A script's first bytes; one byte for the mode follows.
 pub const MAGIC: &[u8; 4] = b"PRM1";
+/// The length of the longest script.
+pub const LONGEST: usize = 1_048_576;
 pub const ANSWERS: u8 = 0;
 pub const PICTURE: u8 = 1;
 

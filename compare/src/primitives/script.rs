@@ -1,6 +1,6 @@
 //! Scripts: made case by case with the original's answers, and answered.
 
-use super::case::{Case, ANSWERS, MAGIC, PICTURE};
+use super::case::{Case, ANSWERS, LONGEST, MAGIC, PICTURE};
 use super::original::Original;
 use super::tally::Tally;
 use crate::overflow::Overflow;
@@ -49,7 +49,7 @@ impl Script {
 /// What is printed for a script; an error where the original has no answer.
 pub fn answers(script: &[u8]) -> Result<Vec<u8>, String> {
     let (mode, mut rest) = match script.strip_prefix(MAGIC) {
-        Some([mode @ (ANSWERS | PICTURE), rest @ ..]) => (*mode, rest),
+        Some([mode @ (ANSWERS | PICTURE), rest @ ..]) if script.len() <= LONGEST => (*mode, rest),
         _ => return Ok(b"bad script\n".to_vec()),
     };
     let mut original = Original::new();
@@ -88,6 +88,7 @@ mod tests {
             assert_eq!(answers(script).unwrap(), b"bad script\n");
         }
         assert_eq!(printed(ANSWERS, &[]), "");
+        assert_eq!(printed(PICTURE, &[0x06, 0].repeat(LONGEST / 2 - 2)), "bad script\n");
     }
 
     #[test]
