@@ -35,15 +35,17 @@ pub fn rop_run_from(dst: &mut [u8], src: &[u8], d: usize, s: usize, n: usize, ta
     }
 }
 
-// The same with both in one memory. The source words are those before the call, however the two overlap: the row goes by way
-// of a buffer, and has at most 4,096 words.
+// The same with both in one memory. The source words are those before the call, however the two overlap. A row has at most
+// 4,096 words.
 pub fn rop_run_within(mem: &mut [u8], d: usize, s: usize, n: usize, table: u8, pat: u16)
     requires { ⌜ (n ≤ 4096) × ((2 * (d + n) ≤ length (now mem)) × (2 * (s + n) ≤ length (now mem))) ⌝ }
     ensures { λ _. ⌜ now (mem .exit) ≡ painted (between d (d + n)) (ropped table pat (λ i. word (now (mem .entry)) (s + (i - d))) (now (mem .entry))) (now (mem .entry)) ⌝ }
 {
-    let mut row = [0u8; 8192];
-    words::copy_run(&mut row, mem, 0, s, n);
-    rop_run_from(mem, &row, d, 0, n, table, pat);
+    if table == SRCCOPY_TABLE {
+        words::move_run(mem, d, s, n);
+    } else {
+        combine_run_within(mem, d, s, n, table, pat);
+    }
 }
 
 // The loop of rop_run for any table.
@@ -67,4 +69,14 @@ fn combine_run_from(dst: &mut [u8], src: &[u8], d: usize, s: usize, n: usize, ta
         let old = words::word_at(dst, d + k);
         words::set_word(dst, d + k, rop3::apply_table(table, pat, from, old));
     }
+}
+
+// rop_run_within for any table: the source row goes by way of a buffer.
+fn combine_run_within(mem: &mut [u8], d: usize, s: usize, n: usize, table: u8, pat: u16)
+    requires { ⌜ (n ≤ 4096) × ((2 * (d + n) ≤ length (now mem)) × (2 * (s + n) ≤ length (now mem))) ⌝ }
+    ensures { λ _. ⌜ now (mem .exit) ≡ painted (between d (d + n)) (ropped table pat (λ i. word (now (mem .entry)) (s + (i - d))) (now (mem .entry))) (now (mem .entry)) ⌝ }
+{
+    let mut row = [0u8; 8192];
+    words::copy_run(&mut row, mem, 0, s, n);
+    combine_run_from(mem, &row, d, 0, n, table, pat);
 }

@@ -1,9 +1,7 @@
 -- `raster::rop_run_from` meets its contract. Assumes nothing.
-use Prim.Native.Nat.{ℕ, _+_, _-_, _*_}
+use Prim.Native.Nat.{_+_}
 use Rattle.laws.specs.Interval.{between}
-use Rattle.raster.proofs.Plain.{source-ropped}
-use Rattle.words.proofs.Painted.{word-lt}
-use Rattle.words.specs.Words.{word}
+use Rattle.raster.proofs.Plain.{copy-ropped}
 use mathlib.Core.Path.{_∙_}
 use native.Mathlib.Omega.{arith}
 use borrow.Author.Needs.{needs}
@@ -22,10 +20,9 @@ same-length c = search needs
 returns : tie.Need-returns
 returns c =
     let a = c .before .before .before .before .before .before .before .args in
-    let bytes = c .before .before .before .before .before .shared-slice-known .given in
     c .before .before .copy-run .ensures
-    ∙ source-ropped (a .table) (between (a .d) (a .d + a .n)) (a .pat) (λ i. word (a .src .now) (a .s + (i - a .d))) (a .dst .now) (c .before .before .before .before .if1 .taken)
-    (λ i. let j = a .s + (i - a .d) in word-lt (a .src .now) j (omega (arith, bytes (2 * j))) (omega (arith, bytes (2 * j + 1))))
+    ∙ copy-ropped (a .table) (between (a .d) (a .d + a .n)) (a .pat) (a .d) (a .s) (a .src .now) (a .dst .now) (c .before .before .before .before .if1 .taken)
+    (λ k. omega (arith, c .before .before .before .before .before .shared-slice-known .given k))
 
 same-length-2 : tie.Need-same-length-2
 same-length-2 c = search needs

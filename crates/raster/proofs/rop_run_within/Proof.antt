@@ -1,42 +1,42 @@
--- `raster::rop_run_within` meets its contract: what is read back from the buffer is the row before the call. Assumes nothing.
-use Rattle.rop3.specs.Rop3.{applied}
-use Rattle.words.proofs.Runs.{through-buffer}
-use lib.ListN.{replicate}
+-- `raster::rop_run_within` meets its contract. Assumes nothing.
+use Prim.Native.Nat.{_+_}
+use Rattle.laws.specs.Interval.{between}
+use Rattle.raster.proofs.Plain.{copy-ropped}
 use mathlib.Core.Path.{_∙_}
 use native.Mathlib.Omega.{arith}
 use borrow.Author.Needs.{needs}
 use Rattle.raster.proofs.rop_run_within.Statement.{statement}
 use Rattle.raster.proofs.rop_run_within.Tie as tie
 
-slice-aggregate-copy-run : tie.Need-slice-aggregate-copy-run
-slice-aggregate-copy-run c = search needs
+move-run-requires : tie.Need-move-run-requires
+move-run-requires c κs = search needs
 
-copy-run-requires : tie.Need-copy-run-requires
-copy-run-requires c κs = search needs
-
-slice-aggregate-rop-run-from : tie.Need-slice-aggregate-rop-run-from
-slice-aggregate-rop-run-from c = search needs
-
-rop-run-from-requires : tie.Need-rop-run-from-requires
-rop-run-from-requires c κs = search needs
+combine-run-within-requires : tie.Need-combine-run-within-requires
+combine-run-within-requires c κs = search needs
 
 same-length : tie.Need-same-length
 same-length c = search needs
 
 returns : tie.Need-returns
 returns c =
-    let a = c .before .before .before .before .before .before .before .before .before .before .args in
-    c .before .before .rop-run-from .ensures
-    ∙ through-buffer (applied (a .table) (a .pat)) (a .d) (a .s) (a .n) (a .mem .now) (replicate 8192 0) (λ k. omega (arith, c .before .before .before .before .before .before .before .before .before .slice-known .given k)) (search needs)
-    (c .before .before .before .before .before .before .copy-run .ensures)
+    let a = c .before .before .before .before .before .before .args in
+    c .before .before .move-run .ensures
+    ∙ copy-ropped (a .table) (between (a .d) (a .d + a .n)) (a .pat) (a .d) (a .s) (a .mem .now) (a .mem .now) (c .before .before .before .before .if1 .taken)
+    (λ k. omega (arith, c .before .before .before .before .before .slice-known .given k))
+
+same-length-2 : tie.Need-same-length-2
+same-length-2 c = search needs
+
+returns-2 : tie.Need-returns-2
+returns-2 c = search needs
 
 pub rop-run-within-spec : {M : Type 1} → statement M
 rop-run-within-spec =
     tie.close
     (tie.spec
-    slice-aggregate-copy-run
-    copy-run-requires
-    slice-aggregate-rop-run-from
-    rop-run-from-requires
+    move-run-requires
+    combine-run-within-requires
     same-length
-    returns)
+    returns
+    same-length-2
+    returns-2)
