@@ -1,16 +1,15 @@
 -- Laws of two's complement, over the number from which on it is negative, and of the machine words that hold it.
 -- Assumes nothing.
 use mathlib.Core.Path.{_≡_, ap, sym, _∙_}
-use mathlib.Core.Bool.{Bool, true, false}
-use Prim.Native.Nat.{ℕ, suc, _+_, _*_, _≤_, _<_, _^_}
+use Prim.Native.Nat.{ℕ, suc, _*_, _-_, _≤_, _<_, _^_}
 use native.Mathlib.Decide.{decLt}
 use native.Mathlib.Omega.{arith}
 use lib.IntN.{ℤ, pos, negsuc, _-ℤ_}
 use mir.Val.{SFits, toZ, ofZ}
 use mir.Syntax.{w32, w64}
 use borrow.Author.Tests.{lt-ltb, le-ltb}
+use Rattle.laws.proofs.Integer.{difference, eq-parts, fits64, stored32, stored64, natural64}
 use Rattle.laws.specs.Integer.{positive, negative}
-use Rattle.laws.proofs.Integer.{difference, fits64, stored32, stored64, natural64}
 use Rattle.bigendian.specs.BigEndian.{signed}
 
 -- the range of 32 bits, over the parts
@@ -38,8 +37,8 @@ signed-range half n h = by (decLt n half)
     by : Dec (n < half) → (positive (signed half n) < half) × (negative (signed half n) ≤ half)
     by (yes k) = rw (below-half half k) (omega arith)
     by (no k) =
-        let e = from-half half {n = n} (omega arith) in
-        omega (arith, ap positive e, ap negative e, difference (pos n) (pos (2 * half)))
+        let e = from-half half {n = n} (omega arith) ∙ eq-parts (pos n -ℤ pos (2 * half)) (negsuc (2 * half - suc n)) (omega (arith, difference (pos n) (pos (2 * half)))) in
+        omega (arith, ap positive e, ap negative e)
 
 -- the lower half, as the code returns it
 pub low-returns : (half : ℕ) {n m : ℕ} → n < half → half ≤ 2 ^ 31 → n ≡ m → toZ w32 n ≡ signed half m

@@ -10,7 +10,9 @@ pub fn read_u16(s: &[u8], at: usize) -> u16
     requires { ⌜ at + 2 ≤ length (now s) ⌝ }
     ensures { λ r. ⌜ r ≡ be16 (now (s .entry)) at ⌝ }
 {
-    256 * (s[at] as u16) + (s[at + 1] as u16)
+    let hi = s[at] as u16;
+    let lo = s[at + 1] as u16;
+    256 * hi + lo
 }
 
 // The unsigned number in the four bytes from `at` on, which the caller owes.
@@ -18,7 +20,9 @@ pub fn read_u32(s: &[u8], at: usize) -> u32
     requires { ⌜ at + 4 ≤ length (now s) ⌝ }
     ensures { λ r. ⌜ r ≡ be32 (now (s .entry)) at ⌝ }
 {
-    65536 * (read_u16(s, at) as u32) + (read_u16(s, at + 2) as u32)
+    let hi = read_u16(s, at) as u32;
+    let lo = read_u16(s, at + 2) as u32;
+    65536 * hi + lo
 }
 
 // The signed number in the two bytes from `at` on, which the caller owes.

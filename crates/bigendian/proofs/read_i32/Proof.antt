@@ -1,37 +1,31 @@
+-- `bigendian::read_i32` meets its contract: its two returns are the halves of two's complement. Assumes nothing.
+use Prim.Native.Nat.{_^_}
+use native.Mathlib.Omega.{arith}
 use borrow.Author.Needs.{needs}
+use Rattle.bigendian.proofs.Signed.{low-returns, less-fits, less-cast, high-returns}
 use Rattle.bigendian.proofs.read_i32.Statement.{statement}
 use Rattle.bigendian.proofs.read_i32.Tie as tie
-use Rattle.bigendian.proofs.read_i32.Reads as reads
-use Rattle.bigendian.proofs.read_i32.Lts as lts
-use Rattle.bigendian.proofs.read_u32.Reads as read-u32-reads
 
--- src/lib.rt:41:9
 read-u32-requires : tie.Need-read-u32-requires
 read-u32-requires c κs = search needs
 
--- src/lib.rt:43:16
 cast-result : tie.Need-cast-result
 cast-result c = search needs
 
--- src/lib.rt:43:9
 returns : tie.Need-returns
-returns c = ?
+returns c = low-returns (2 ^ 31) (c .if1 .taken) (omega arith) (c .before .read-u32 .ensures)
 
--- src/lib.rt:45:7
 cast-result-2 : tie.Need-cast-result-2
 cast-result-2 c = search needs
 
--- src/lib.rt:45:6
 sub-result : tie.Need-sub-result
-sub-result c = ?
+sub-result c = less-fits (2 ^ 31) (c .if1 .left) (omega arith) (omega arith)
 
--- src/lib.rt:45:5
 cast-result-3 : tie.Need-cast-result-3
-cast-result-3 c = ?
+cast-result-3 c = less-cast (2 ^ 31) (c .if1 .left) (omega arith) (omega arith)
 
--- src/lib.rt:37:1
 returns-2 : tie.Need-returns-2
-returns-2 c = ?
+returns-2 c = high-returns (2 ^ 31) (c .if1 .left) (omega arith) (omega arith) (c .before .read-u32 .ensures)
 
 pub read-i32-spec : {M : Type 1} → statement M
 read-i32-spec =

@@ -1,38 +1,31 @@
+-- `bigendian::read_u16` meets its contract: a byte is below 256. Assumes nothing.
+use Prim.Native.Nat.{_+_}
+use native.Mathlib.Omega.{arith}
 use borrow.Author.Needs.{needs}
 use Rattle.bigendian.proofs.read_u16.Statement.{statement}
 use Rattle.bigendian.proofs.read_u16.Tie as tie
-use Rattle.bigendian.proofs.read_u16.Reads as reads
-use Rattle.bigendian.proofs.read_u16.Lts as lts
 
--- src/lib.rt:13:12
-shared-slice-read-result : tie.Need-shared-slice-read-result
-shared-slice-read-result c = search needs
+shared-slice-read-hi : tie.Need-shared-slice-read-hi
+shared-slice-read-hi c = search needs
 
--- src/lib.rt:13:12
-cast-result : tie.Need-cast-result
-cast-result c = ?
+cast-hi : tie.Need-cast-hi
+cast-hi c = omega (arith, c .shared-slice-known .given (c .before .args .at))
 
--- src/lib.rt:13:5
+add-lo : tie.Need-add-lo
+add-lo c = search needs
+
+shared-slice-read-lo : tie.Need-shared-slice-read-lo
+shared-slice-read-lo c = search needs
+
+cast-lo : tie.Need-cast-lo
+cast-lo c = omega (arith, c .shared-slice-known2 .given (c .before .before .args .at + 1))
+
 mul-result : tie.Need-mul-result
-mul-result c = ?
+mul-result c = let a = c .before .before .args in omega (arith, c .shared-slice-known2 .given (a .at), c .shared-slice-known2 .given (a .at + 1))
 
--- src/lib.rt:13:31
 add-result : tie.Need-add-result
-add-result c = search needs
+add-result c = let a = c .before .before .args in omega (arith, c .shared-slice-known2 .given (a .at), c .shared-slice-known2 .given (a .at + 1))
 
--- src/lib.rt:13:29
-shared-slice-read-result-2 : tie.Need-shared-slice-read-result-2
-shared-slice-read-result-2 c = search needs
-
--- src/lib.rt:13:29
-cast-result-2 : tie.Need-cast-result-2
-cast-result-2 c = ?
-
--- src/lib.rt:13:5
-add-result-2 : tie.Need-add-result-2
-add-result-2 c = ?
-
--- src/lib.rt:9:1
 returns : tie.Need-returns
 returns c = search needs
 
@@ -40,11 +33,11 @@ pub read-u16-spec : {M : Type 1} → statement M
 read-u16-spec =
     tie.close
     (tie.spec
-    shared-slice-read-result
-    cast-result
+    shared-slice-read-hi
+    cast-hi
+    add-lo
+    shared-slice-read-lo
+    cast-lo
     mul-result
     add-result
-    shared-slice-read-result-2
-    cast-result-2
-    add-result-2
     returns)

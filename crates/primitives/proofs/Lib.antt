@@ -1,0 +1,4 @@
+pub mod Arrays
+pub mod Bounds
+pub mod Clips
+pub mod Coordinates

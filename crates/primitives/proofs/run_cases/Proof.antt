@@ -1,0 +1,77 @@
+-- `primitives::run_cases` meets its contract. The invariant: the pixels keep their length, and the sides are served. The measure is what is left of the script. Assumes nothing.
+use mathlib.Core.Path.{_≡_}
+use Prim.Native.Nat.{_-_}
+use lib.ListN.{length}
+use borrow.Author.Needs.{needs}
+use Rattle.primitives.specs.Cases.{Served}
+use Rattle.primitives.proofs.run_cases.Statement.{statement}
+use Rattle.primitives.proofs.run_cases.Tie as tie
+
+abbrev Inv-loop : tie.InvT-loop
+Inv-loop s pixels₀ shown at₀ sides₀ pixels at sides = (length pixels ≡ 153600) × Served sides
+
+abbrev μ-loop : tie.MeasureT-loop
+μ-loop s pixels₀ shown at₀ sides₀ pixels at sides = length s - at
+
+loop-holds : tie.Need-loop-holds Inv-loop μ-loop
+loop-holds c = search needs
+
+sub-work-out : tie.Need-sub-work-out Inv-loop μ-loop
+sub-work-out c = search needs
+
+part-work-out-start : tie.Need-part-work-out-start Inv-loop μ-loop
+part-work-out-start c = search needs
+
+part-work-out-end : tie.Need-part-work-out-end Inv-loop μ-loop
+part-work-out-end c = search needs
+
+work-out-requires : tie.Need-work-out-requires Inv-loop μ-loop
+work-out-requires c κs = search needs
+
+print-bad-case-requires : tie.Need-print-bad-case-requires Inv-loop μ-loop
+print-bad-case-requires c κs = search needs
+
+same-length : tie.Need-same-length Inv-loop μ-loop
+same-length c = search needs
+
+returns : tie.Need-returns Inv-loop μ-loop
+returns c = search needs
+
+show-requires : tie.Need-show-requires Inv-loop μ-loop
+show-requires c κs = search needs
+
+add-at : tie.Need-add-at Inv-loop μ-loop
+add-at c = search needs
+
+loop-less : tie.Need-loop-less Inv-loop μ-loop
+loop-less c = search needs
+
+loop-again : tie.Need-loop-again Inv-loop μ-loop
+loop-again c = search needs
+
+same-length-2 : tie.Need-same-length-2 Inv-loop μ-loop
+same-length-2 c = search needs
+
+returns-2 : tie.Need-returns-2 Inv-loop μ-loop
+returns-2 c = search needs
+
+pub run-cases-spec : {M : Type 1} → statement M
+run-cases-spec =
+    tie.close
+    (tie.spec
+    Inv-loop
+    μ-loop
+    loop-holds
+    sub-work-out
+    part-work-out-start
+    part-work-out-end
+    work-out-requires
+    print-bad-case-requires
+    same-length
+    returns
+    show-requires
+    add-at
+    loop-less
+    loop-again
+    same-length-2
+    returns-2)
