@@ -5,24 +5,13 @@ use Prim.Native.Nat.{ℕ, suc, _*_, _-_, _≤_, _<_, _^_}
 use native.Mathlib.Decide.{decLt}
 use native.Mathlib.Omega.{arith}
 use lib.IntN.{ℤ, pos, negsuc, _-ℤ_}
-use mir.Val.{SFits, toZ, ofZ}
+use mir.Val.{SFits, toZ}
 use mir.Syntax.{w32, w64}
 use borrow.Author.Tests.{lt-ltb, le-ltb}
-use Rattle.laws.proofs.Integer.{difference, eq-parts, fits64, stored32, stored64, natural64}
+use Rattle.laws.proofs.Integer.{difference, eq-parts}
+use Rattle.laws.proofs.Machine.{fits32, fits64, held32, held64, stored32, stored64, natural64}
 use Rattle.laws.specs.Integer.{positive, negative}
 use Rattle.bigendian.specs.BigEndian.{signed}
-
--- the range of 32 bits, over the parts
-pub fits32 : (z : ℤ) → positive z < 2 ^ 31 → negative z ≤ 2 ^ 31 → SFits w32 z
-fits32 (pos n) p q = record { sfits = p }
-fits32 (negsuc n) p q = record { sfits = omega arith }
-
--- what the code reads back of a signed word that it stored
-abbrev held32 : ℤ → ℤ
-held32 z = toZ w32 (ofZ w32 z)
-
-abbrev held64 : ℤ → ℤ
-held64 z = toZ w64 (ofZ w64 z)
 
 pub below-half : (half : ℕ) {n : ℕ} → n < half → signed half n ≡ pos n
 below-half half {n} h = rw (lt-ltb n half h)

@@ -10,14 +10,13 @@ use lib.Signed.{leZ, ltZ}
 use borrow.Author.Tests.{ltb-true, ltb-false}
 use Rattle.laws.specs.Interval.{between}
 use Rattle.laws.specs.Integer.{positive, negative}
+use Rattle.laws.proofs.Integer.{sum, difference, eq-parts, le-moved, lt-moved}
 use Rattle.laws.proofs.Interval.{Lies, where-is, between-yes, between-no, bounds}
-use Rattle.laws.proofs.Integer.{sum, difference, eq-parts}
 use Rattle.laws.proofs.Test.{both}
 use Rattle.clip.specs.declared.Span.{Span}
 use Rattle.clip.specs.declared.BlitRect.{BlitRect}
 use Rattle.clip.specs.Clip.{nearest, covers, clippedAxis}
 use Rattle.clip.specs.Blit.{sourceAt, inside, drawn, drawnAt, shifted, placed, nothing, blitAxis, blitRect, Clipped}
-use Rattle.clip.proofs.Integer.{le-moved, lt-moved}
 use Rattle.clip.proofs.Clip.{clip-covers, clip-within}
 
 inside-parts : (z : ℤ) (side : ℕ) → inside z side ≡ true → (negative z ≡ 0) × (positive z < side)

@@ -10,12 +10,11 @@ use lib.Signed.{leZ, ltZ}
 use borrow.Author.Tests.{leb-true}
 use Rattle.laws.specs.Interval.{between}
 use Rattle.laws.specs.Integer.{positive, negative}
+use Rattle.laws.proofs.Integer.{sum, le-parts, lt-parts, one-part}
 use Rattle.laws.proofs.Interval.{between-no}
-use Rattle.laws.proofs.Integer.{sum, le-parts, lt-parts}
 use Rattle.laws.proofs.Test.{same-order}
 use Rattle.clip.specs.declared.Rect.{Rect}
 use Rattle.clip.specs.Clip.{nearest, covers, clippedAxis, clippedRect}
-use Rattle.clip.proofs.Integer.{one-part}
 
 -- the nearest number, over the parts
 pub nearest-parts : (z : ℤ) (side : ℕ) → nearest z side ≡ min (positive z) side

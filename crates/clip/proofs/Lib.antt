@@ -1,3 +1,2 @@
-pub mod Integer
 pub mod Clip
 pub mod Blit

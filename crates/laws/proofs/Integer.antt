@@ -1,16 +1,13 @@
 -- The integers for `omega`: z is positive z - negative z, so a fact of integers is one of naturals. Cases on an integer's
 -- sign stand here and nowhere above. Assumes nothing.
 use mathlib.Core.Path.{_≡_, refl, sym, _∙_, ap}
-use mathlib.Core.Bool.{Bool, true, false, cond}
-use Prim.Native.Nat.{ℕ, zero, suc, _+_, _-_, _≤_, _<_, _^_}
+use mathlib.Core.Bool.{Bool, true, false, cond, true≢false}
+use Prim.Native.Nat.{ℕ, zero, suc, _+_, _-_, _≤_, _<_, min}
 use native.Mathlib.Omega.{arith}
 use lib.Dec.{T, leb, ltb}
 use lib.IntN.{ℤ, pos, negsuc, _+ℤ_, _-ℤ_, negℤ, subℕ, natAbs}
-use lib.Signed.{mag, leZ, ltZ, nonNeg}
-use mir.Val.{SFits, Fits, toZ, ofZ}
-use mir.ValLaws.{toZ-ofZ}
-use mir.Syntax.{w32, w64}
-use borrow.Author.Tests.{leb-true, ltb-true, ltb-false, lt-leb, le-leb, lt-ltb}
+use lib.Signed.{leZ, ltZ, nonNeg}
+use borrow.Author.Tests.{leb-true, ltb-true, ltb-false, lt-leb, le-leb}
 use Rattle.laws.specs.Integer.{positive, negative}
 use Rattle.laws.proofs.Test.{same-order}
 
@@ -58,33 +55,33 @@ eq-parts (pos a) (negsuc b) h = absurd (omega arith)
 eq-parts (negsuc a) (pos b) h = absurd (omega arith)
 eq-parts (negsuc a) (negsuc b) h = ap negsuc (omega arith)
 
+-- integers that are as far apart, a - b = c - e, are in the same order
+module _ (a b c e : ℤ) (same : positive a + negative b + (positive e + negative c) ≡ positive c + negative e + (positive b + negative a)) where
+  pub le-moved : leZ a b ≡ leZ c e
+  le-moved =
+      le-parts a b
+      ∙ same-order (positive a + negative b) (positive b + negative a) (positive c + negative e) (positive e + negative c) (λ h. omega arith) (λ h. omega arith)
+      ∙ sym (le-parts c e)
+
+  pub lt-moved : ltZ a b ≡ ltZ c e
+  lt-moved =
+      lt-parts a b
+      ∙ same-order (suc (positive a + negative b)) (positive b + negative a) (suc (positive c + negative e)) (positive e + negative c) (λ h. omega arith) (λ h. omega arith)
+      ∙ sym (lt-parts c e)
+
 -- one of the two parts is 0
-pub one-zero : (z : ℤ) → 0 < positive z → negative z ≡ 0
-one-zero (pos n) h = refl
-one-zero (negsuc n) h = absurd (omega arith)
+pub one-part : (z : ℤ) → min (positive z) (negative z) ≡ 0
+one-part (pos n) = omega arith
+one-part (negsuc n) = omega arith
 
 -- an integer that is not negative
-module _ (z : ℤ) (h : negative z ≡ 0) where
-  pub abs-positive : natAbs z ≡ positive z
-  abs-positive = by z h
-    where
-      by : (y : ℤ) → negative y ≡ 0 → natAbs y ≡ positive y
-      by (pos n) e = refl
-      by (negsuc n) e = absurd (omega arith)
+pub abs-positive : (z : ℤ) → negative z ≡ 0 → natAbs z ≡ positive z
+abs-positive (pos n) h = refl
+abs-positive (negsuc n) h = absurd (omega arith)
 
-  pub is-positive : z ≡ pos (positive z)
-  is-positive = by z h
-    where
-      by : (y : ℤ) → negative y ≡ 0 → y ≡ pos (positive y)
-      by (pos n) e = refl
-      by (negsuc n) e = absurd (omega arith)
-
-  pub not-negative : T (nonNeg z)
-  not-negative = by z h
-    where
-      by : (y : ℤ) → negative y ≡ 0 → T (nonNeg y)
-      by (pos n) e = tt
-      by (negsuc n) e = absurd (omega arith)
+pub not-negative : (z : ℤ) → negative z ≡ 0 → T (nonNeg z)
+not-negative (pos n) h = tt
+not-negative (negsuc n) h = absurd (omega arith)
 
 -- a test of the code's against 0
 pub tested-negative : (z : ℤ) → ltZ z (pos 0) ≡ true → positive z ≡ 0
@@ -93,35 +90,4 @@ tested-negative (negsuc n) e = refl
 
 pub tested-positive : (z : ℤ) → ltZ z (pos 0) ≡ false → negative z ≡ 0
 tested-positive (pos n) e = refl
-tested-positive (negsuc n) e = absurd (by e)
-  where
-    by : true ≡ false → ⊥
-    by f = mathlib.Core.Bool.true≢false f
-
--- the range of a machine word, over the parts
-magnitude : (z : ℤ) → (mag z ≤ positive z + negative z) × ((positive z ≤ mag z) × (negative z ≤ mag z + 1))
-magnitude (pos n) = omega arith
-magnitude (negsuc n) = omega arith
-
-pub range32 : (z : ℤ) → SFits w32 z → (positive z < 2 ^ 31) × (negative z ≤ 2 ^ 31)
-range32 z f = omega (arith, f .sfits, magnitude z)
-
-pub range64 : (z : ℤ) → SFits w64 z → (positive z < 2 ^ 63) × (negative z ≤ 2 ^ 63)
-range64 z f = omega (arith, f .sfits, magnitude z)
-
-pub fits64 : (z : ℤ) → positive z < 2 ^ 40 → negative z < 2 ^ 40 → SFits w64 z
-fits64 z p n = record { sfits = omega (arith, magnitude z) }
-
-pub widened : (z : ℤ) → SFits w32 z → SFits w64 z
-widened z f = fits64 z (omega (arith, range32 z f)) (omega (arith, range32 z f))
-
--- what the code reads back of a signed word that it stored
-pub stored32 : (z : ℤ) → SFits w32 z → toZ w32 (ofZ w32 z) ≡ z
-stored32 z f = toZ-ofZ w32 z f
-
-pub stored64 : (z : ℤ) → SFits w64 z → toZ w64 (ofZ w64 z) ≡ z
-stored64 z f = toZ-ofZ w64 z f
-
--- a natural, read as a signed word
-pub natural64 : (n : ℕ) → n < 2 ^ 63 → toZ w64 n ≡ pos n
-natural64 n h = rw (lt-ltb n (2 ^ 63) h)
+tested-positive (negsuc n) e = absurd (true≢false e)

@@ -8,8 +8,9 @@ use lib.ListN.{getD}
 use mir.Val.{Fits, SFits, toZ, ofZ}
 use mir.ValLaws.{toZ-pos}
 use mir.Syntax.{w8, w32}
-use Rattle.laws.proofs.Integer.{sum, stored32}
-use Rattle.bigendian.proofs.Signed.{fits32, signed-range}
+use Rattle.laws.proofs.Integer.{sum}
+use Rattle.laws.proofs.Machine.{fits32, stored32}
+use Rattle.bigendian.proofs.Signed.{signed-range}
 use Rattle.bigendian.specs.BigEndian.{be16, signed16}
 use Rattle.primitives.specs.Cases.{Near}
 

@@ -7,7 +7,8 @@ use lib.IntN.{ℤ, natAbs}
 use mir.Val.{toZ, ofZ}
 use mir.Syntax.{w64}
 use Rattle.laws.specs.Integer.{positive, negative}
-use Rattle.laws.proofs.Integer.{stored64, range64, tested-negative, tested-positive, abs-positive, not-negative}
+use Rattle.laws.proofs.Integer.{tested-negative, tested-positive, abs-positive, not-negative}
+use Rattle.laws.proofs.Machine.{stored64, range64}
 use Rattle.clip.specs.Clip.{nearest}
 use Rattle.clip.proofs.Clip.{nearest-parts}
 use Rattle.clip.proofs.clamp.Statement.{statement}

@@ -11,11 +11,11 @@ use mir.Val.{toZ}
 use mir.Syntax.{w64}
 use borrow.Author.Tests.{lt-ltb, le-ltb}
 use Rattle.laws.specs.Integer.{positive, negative}
-use Rattle.laws.proofs.Integer.{stored32, natural64, abs-positive, not-negative}
+use Rattle.laws.proofs.Integer.{abs-positive, not-negative}
+use Rattle.laws.proofs.Machine.{stored32, natural64, held32, held64, cast-fits, cast-held, Terms, signed-term, natural-term, sum-terms, difference-terms, terms-fit, terms-held}
 use Rattle.clip.specs.declared.Span.{Span}
 use Rattle.clip.specs.Clip.{nearest, clippedAxis}
 use Rattle.clip.specs.Blit.{shifted, nothing, blitAxis}
-use Rattle.clip.proofs.Integer.{held32, held64, cast-fits, cast-held, Terms, signed-term, natural-term, sum-terms, difference-terms, terms-fit, terms-held}
 use Rattle.clip.proofs.Blit.{blit-steps, blit-first}
 use Rattle.clip.proofs.clip_blit_axis.Statement.{statement}
 use Rattle.clip.proofs.clip_blit_axis.Tie as tie
