@@ -1,13 +1,13 @@
 -- The examples marked P: each is what the definitions compute.
-use mathlib.Core.Path.{_≡_, refl}
 use mathlib.Core.Bool.{false}
+use mathlib.Core.Path.{_≡_, refl}
 use Prim.Native.Nat.{_≤_}
 use lib.Dec.{lit≤}
 use lib.IntN.{pos, negsuc}
-use Rattle.color.specs.Color.{packed, wideRed, wideGreen, wideBlue, from555}
 use Rattle.rop3.specs.Rop3.{tableOf, applied, usesSrc}
-use Rattle.clip.specs.Clip.{clippedAxis, clippedRect}
 use Rattle.clip.specs.Blit.{blitAxis, blitRect}
+use Rattle.clip.specs.Clip.{clippedAxis, clippedRect}
+use Rattle.color.specs.Color.{packed, wideRed, wideGreen, wideBlue, from555}
 
 -- COLORREF 0x00C0C0C0 packs to 0xC618, 0xFF000000 to 0
 pub light-gray : packed 0x00C0C0C0 ≡ 0xC618

@@ -5,9 +5,9 @@ use native.Mathlib.Omega.{arith}
 use lib.Dec.{T, ltb, lit<}
 use lib.IntN.{ℤ, pos, negsuc, _+ℤ_, _-ℤ_}
 use lib.Signed.{mag}
+use mir.Syntax.{w32, w64}
 use mir.Val.{SFits, toZ, ofZ}
 use mir.ValLaws.{toZ-ofZ}
-use mir.Syntax.{w32, w64}
 use borrow.Author.Tests.{lt-ltb}
 use Rattle.laws.specs.Integer.{positive, negative}
 use Rattle.laws.proofs.Integer.{sum, difference}

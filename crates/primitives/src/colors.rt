@@ -6,7 +6,7 @@ use color::Colorref;
 use color::Rgb555;
 use color::Rgb565;
 ghost use mathlib.Core.Path.{_≡_};
-ghost use Prim.Native.Nat.{_+_, _≤_, _<_};
+ghost use Prim.Native.Nat.{_+_, _<_};
 ghost use lib.ListN.{length};
 ghost use Rattle.primitives.specs.Cases.{Fitting};
 

@@ -1,7 +1,7 @@
 -- The plain loops leave what the general definition says at their tables. Assumes nothing.
-use mathlib.Core.Path.{_≡_, refl}
 use mathlib.Core.Bool.{Bool}
 use mathlib.Core.List.{List}
+use mathlib.Core.Path.{_≡_, refl}
 use Prim.Native.Nat.{ℕ, _+_, _-_, _*_, _<_}
 use lib.ListN.{getD}
 use Rattle.words.specs.Words.{painted, word}

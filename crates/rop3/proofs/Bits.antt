@@ -1,5 +1,5 @@
 -- Laws of the bits of a number and of the code's masks. Assumes nothing.
-use mathlib.Core.Path.{_≡_, refl, sym, _∙_, ap}
+use mathlib.Core.Path.{_≡_, refl, _∙_, ap}
 use Prim.Native.Nat.{ℕ, zero, suc, _+_, _*_, _/_, _%_, _^_, _<_, min}
 use native.Mathlib.Omega.{arith}
 use lib.Bits.{bitAnd, bitXor, and-step, xor-step, differ as xorBit}

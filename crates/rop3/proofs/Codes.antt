@@ -1,7 +1,7 @@
 -- What a code leaves: its bits, its range, and the two tables that have a loop of their own. Assumes nothing.
 use mathlib.Core.Path.{_≡_, refl}
 use Prim.Native.Nat.{ℕ, _+_, _*_, _<_}
-use Rattle.rop3.specs.Rop3.{bit, fromBits, result, applied}
+use Rattle.rop3.specs.Rop3.{bit, result, applied}
 use Rattle.rop3.proofs.Bits.{Digit, off, on, bit-digit, bit-lt, from-bits, fromBits-lt, bit-fromBits}
 
 -- bit n of the result is bit 4P + 2S + D of the table

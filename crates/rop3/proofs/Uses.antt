@@ -1,13 +1,12 @@
 -- An operand that a code does not use has no effect on its result. Assumes nothing.
+use mathlib.Core.Bool.{false}
 use mathlib.Core.Path.{_≡_, refl, sym, _∙_}
-use mathlib.Core.Bool.{false, not}
-use Prim.Native.Nat.{ℕ, _+_, _*_, _<_}
-use native.Mathlib.Omega.{arith}
+use Prim.Native.Nat.{ℕ, _<_}
 use lib.Dec.{eqb}
 use borrow.Author.Tests.{eqb-true, not-false}
 use Rattle.laws.specs.Test.{anyBelow}
 use Rattle.laws.proofs.Test.{none}
-use Rattle.rop3.specs.Rop3.{bit, fromBits, result, applied, differ, usesSrc, usesDst}
+use Rattle.rop3.specs.Rop3.{bit, result, applied, differ, usesSrc, usesDst}
 use Rattle.rop3.proofs.Bits.{Digit, off, on, bit-digit, bit-lt, fromBits-cong}
 
 same : (x y : ℕ) → differ x y ≡ false → x ≡ y

@@ -1,15 +1,15 @@
 -- Laws of painted memory, word by word. Assumes nothing.
-use mathlib.Core.Path.{_≡_, refl, sym, _∙_, ap}
 use mathlib.Core.Bool.{Bool, true, false, _||_, cond}
 use mathlib.Core.List.{List}
 use mathlib.Core.Logic.{_≢_}
+use mathlib.Core.Path.{_≡_, refl, sym, _∙_, ap}
 use Prim.Native.Nat.{ℕ, _+_, _*_, _/_, _%_, _<_}
 use native.Mathlib.Decide.{ℕ-discrete}
 use native.Mathlib.Omega.{arith}
 use lib.Dec.{eqb}
 use lib.ListN.{getD, length, set}
 use borrow.Author.Tests.{eq-eqb, ne-eqb}
-use Rattle.words.specs.Words.{written, word, byteOf, painted}
+use Rattle.words.specs.Words.{word, byteOf, painted}
 use Rattle.words.proofs.Written.{length-written, written-at, is-written, written-none, written-same, written-again, written-set}
 
 module _ (p : ℕ → Bool) (v : ℕ → ℕ) (m : List ℕ) where

@@ -1,7 +1,7 @@
 -- Laws of a part of a memory that is lent and comes back. Assumes nothing.
-use mathlib.Core.Path.{_≡_, refl, sym, _∙_, ap}
 use mathlib.Core.Bool.{Bool, _&&_, cond}
 use mathlib.Core.List.{List, _++_}
+use mathlib.Core.Path.{_≡_, _∙_, ap}
 use Prim.Native.Nat.{ℕ, _+_, _-_, _*_, _/_, _%_, _≤_, _<_}
 use native.Mathlib.Decide.{decLt}
 use native.Mathlib.Omega.{arith}
@@ -9,8 +9,8 @@ use lib.ListN.{length, take, drop, getD, length-take, length-drop, length-append
 use lib.Seq.{getD-take, getD-drop, getD-append-add, length-take-le}
 use Rattle.laws.specs.Interval.{between}
 use Rattle.laws.proofs.Interval.{between-yes, between-no}
-use Rattle.words.specs.Words.{painted, byteOf}
 use Rattle.words.specs.Parts.{part, withPart}
+use Rattle.words.specs.Words.{painted, byteOf}
 use Rattle.words.proofs.Painted.{length-painted, painted-at, is-painted}
 
 pub length-part : (m : List ℕ) (p n : ℕ) → p + n ≤ length m → length (part m p n) ≡ n

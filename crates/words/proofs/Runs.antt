@@ -1,7 +1,7 @@
 -- Laws of runs of words, for the loops over a row. Assumes nothing.
-use mathlib.Core.Path.{_≡_, refl, sym, _∙_, ap}
-use mathlib.Core.Bool.{Bool, true, cond}
+use mathlib.Core.Bool.{Bool, cond}
 use mathlib.Core.List.{List}
+use mathlib.Core.Path.{_≡_, refl, _∙_, ap}
 use Prim.Native.Nat.{ℕ, zero, suc, _+_, _*_, _-_, _/_, _%_, _≤_, _<_}
 use native.Mathlib.Decide.{ℕ-discrete}
 use native.Mathlib.Omega.{arith}
@@ -9,8 +9,8 @@ use lib.ListN.{length, set, getD}
 use Rattle.laws.specs.Interval.{between}
 use Rattle.laws.proofs.Interval.{between-yes, between-no, between-cong, bounds}
 use Rattle.words.specs.Words.{written, painted, word, byteOf}
+use Rattle.words.proofs.Painted.{painted-none, painted-same, painted-set, word-painted, word-kept, word-lt, low-byte, high-byte}
 use Rattle.words.proofs.Written.{written-none, written-same, written-set}
-use Rattle.words.proofs.Painted.{painted-none, painted-same, painted-set, painted-cong, word-painted, word-kept, word-lt, low-byte, high-byte}
 
 -- a run of bytes begins, and grows by one at its end
 pub write-first : (f : ℕ → ℕ) (m : List ℕ) (a : ℕ) → m ≡ written (between a (a + 0)) f m

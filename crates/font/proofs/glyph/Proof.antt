@@ -1,6 +1,6 @@
 -- `font::glyph` meets its contract. Assumes nothing.
-use borrow.Author.Needs.{needs}
 use mathlib.Core.Path.{refl}
+use borrow.Author.Needs.{needs}
 use Rattle.font.specs.Font.{glyphs}
 use Rattle.font.proofs.glyph.Statement.{statement}
 use Rattle.font.proofs.glyph.Tie as tie

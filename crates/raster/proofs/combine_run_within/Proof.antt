@@ -1,10 +1,10 @@
 -- `raster::combine_run_within` meets its contract: what is read back from the buffer is the row before the call. Assumes nothing.
-use Rattle.rop3.specs.Rop3.{applied}
-use Rattle.words.proofs.Runs.{through-buffer}
-use lib.ListN.{replicate}
 use mathlib.Core.Path.{_∙_}
 use native.Mathlib.Omega.{arith}
+use lib.ListN.{replicate}
 use borrow.Author.Needs.{needs}
+use Rattle.words.proofs.Runs.{through-buffer}
+use Rattle.rop3.specs.Rop3.{applied}
 use Rattle.raster.proofs.combine_run_within.Statement.{statement}
 use Rattle.raster.proofs.combine_run_within.Tie as tie
 

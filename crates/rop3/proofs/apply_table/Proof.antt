@@ -1,10 +1,9 @@
 -- `rop3::apply_table` meets its contract: each bit goes through the tree of multiplexers to its entry of the table. Assumes nothing.
-use Prim.Native.Nat.{ℕ, _+_, _*_, _/_, _%_, _<_}
-use Rattle.rop3.proofs.Bits.{bit-digit, by-p, from-bits}
-use Rattle.rop3.specs.Rop3.{bit, pick, result, applied}
-use mathlib.Core.Path.{_≡_, _∙_, ap}
+use mathlib.Core.Path.{_∙_}
 use native.Mathlib.Omega.{arith}
 use borrow.Author.Needs.{needs}
+use Rattle.rop3.specs.Rop3.{bit, result, applied}
+use Rattle.rop3.proofs.Bits.{bit-digit, by-p, from-bits}
 use Rattle.rop3.proofs.apply_table.Statement.{statement}
 use Rattle.rop3.proofs.apply_table.Tie as tie
 

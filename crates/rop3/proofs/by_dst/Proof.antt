@@ -1,10 +1,9 @@
 -- `rop3::by_dst` meets its contract. Assumes nothing.
-use Prim.Native.Nat.{ℕ, _+_, _*_, _/_, _%_, _<_}
-use Rattle.rop3.proofs.Bits.{bit-digit, spread-bit, by-d}
-use Rattle.rop3.specs.Rop3.{bit, pick}
-use mathlib.Core.Path.{_≡_, _∙_, ap}
+use mathlib.Core.Path.{_∙_}
+use Prim.Native.Nat.{_/_, _%_}
 use native.Mathlib.Omega.{arith}
 use borrow.Author.Needs.{needs}
+use Rattle.rop3.proofs.Bits.{bit-digit, spread-bit, by-d}
 use Rattle.rop3.proofs.by_dst.Statement.{statement}
 use Rattle.rop3.proofs.by_dst.Tie as tie
 

@@ -1,10 +1,7 @@
 -- `rop3::by_src` meets its contract. Assumes nothing.
-use Prim.Native.Nat.{ℕ, _+_, _*_, _/_, _%_, _<_}
-use Rattle.rop3.proofs.Bits.{bit-digit, by-s}
-use Rattle.rop3.specs.Rop3.{bit, pick}
-use mathlib.Core.Path.{_≡_, _∙_, ap}
-use native.Mathlib.Omega.{arith}
+use mathlib.Core.Path.{_∙_}
 use borrow.Author.Needs.{needs}
+use Rattle.rop3.proofs.Bits.{bit-digit, by-s}
 use Rattle.rop3.proofs.by_src.Statement.{statement}
 use Rattle.rop3.proofs.by_src.Tie as tie
 

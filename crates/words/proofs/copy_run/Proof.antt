@@ -1,12 +1,12 @@
 -- `words::copy_run` meets its contract. The invariant: the bytes up to k are copied. Assumes nothing.
-use Prim.Native.Nat.{ℕ, _+_, _*_, _-_, _/_, _%_, _≤_, _<_}
-use Rattle.laws.specs.Interval.{between}
-use Rattle.words.proofs.Runs.{write-first, write-next, copy-painted}
-use Rattle.words.specs.Words.{written, painted, word}
-use borrow.Author.Needs.{needs}
-use lib.ListN.{length, getD, set, length-set}
 use mathlib.Core.Path.{_≡_, refl, _∙_, ap}
+use Prim.Native.Nat.{ℕ, _+_, _*_, _-_, _≤_, _<_}
 use native.Mathlib.Omega.{arith}
+use lib.ListN.{length, getD, length-set}
+use borrow.Author.Needs.{needs}
+use Rattle.laws.specs.Interval.{between}
+use Rattle.words.specs.Words.{written}
+use Rattle.words.proofs.Runs.{write-first, write-next, copy-painted}
 use Rattle.words.proofs.copy_run.Statement.{statement}
 use Rattle.words.proofs.copy_run.Tie as tie
 

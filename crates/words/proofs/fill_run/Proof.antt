@@ -1,13 +1,12 @@
 -- `words::fill_run` meets its contract. The invariant: the words up to k are v. Assumes nothing.
-use Prim.Native.Nat.{_+_, _*_, _-_, _/_, _%_, _≤_, _<_}
-use Rattle.laws.specs.Interval.{between}
-use Rattle.words.proofs.Painted.{painted-cong}
-use Rattle.words.proofs.Runs.{paint-first, paint-next}
-use Rattle.words.specs.Words.{written, painted, word}
-use borrow.Author.Needs.{needs}
-use lib.ListN.{length, getD, set, length-set}
-use mathlib.Core.Path.{_≡_, refl, _∙_, ap}
+use mathlib.Core.Path.{_≡_, refl}
+use Prim.Native.Nat.{_+_, _-_, _≤_}
 use native.Mathlib.Omega.{arith}
+use lib.ListN.{length, length-set}
+use borrow.Author.Needs.{needs}
+use Rattle.laws.specs.Interval.{between}
+use Rattle.words.specs.Words.{painted}
+use Rattle.words.proofs.Runs.{paint-first, paint-next}
 use Rattle.words.proofs.fill_run.Statement.{statement}
 use Rattle.words.proofs.fill_run.Tie as tie
 

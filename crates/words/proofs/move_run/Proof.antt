@@ -1,9 +1,9 @@
 -- `words::move_run` meets its contract: what is read back from the buffer is the row before the call. Assumes nothing.
-use Rattle.words.proofs.Runs.{through-buffer}
-use lib.ListN.{replicate}
 use mathlib.Core.Path.{_∙_}
 use native.Mathlib.Omega.{arith}
+use lib.ListN.{replicate}
 use borrow.Author.Needs.{needs}
+use Rattle.words.proofs.Runs.{through-buffer}
 use Rattle.words.proofs.move_run.Statement.{statement}
 use Rattle.words.proofs.move_run.Tie as tie
 

@@ -1,9 +1,9 @@
 -- `words::word_at` meets its contract. Assumes nothing.
-use Prim.Native.Nat.{_+_, _*_}
-use Rattle.words.specs.Words.{word}
 use mathlib.Core.Path.{refl}
+use Prim.Native.Nat.{_+_, _*_}
 use native.Mathlib.Omega.{arith}
 use borrow.Author.Needs.{needs}
+use Rattle.words.specs.Words.{word}
 use Rattle.words.proofs.word_at.Statement.{statement}
 use Rattle.words.proofs.word_at.Tie as tie
 

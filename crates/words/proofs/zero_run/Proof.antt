@@ -1,12 +1,12 @@
 -- `words::zero_run` meets its contract. The invariant: the bytes up to k are 0. Assumes nothing.
-use Prim.Native.Nat.{_+_, _*_, _-_, _/_, _%_, _≤_, _<_}
-use Rattle.laws.specs.Interval.{between}
-use Rattle.words.proofs.Runs.{write-first, write-next, zeros-painted}
-use Rattle.words.specs.Words.{written, painted, word}
-use borrow.Author.Needs.{needs}
-use lib.ListN.{length, getD, set, length-set}
-use mathlib.Core.Path.{_≡_, refl, _∙_, ap}
+use mathlib.Core.Path.{_≡_, refl, _∙_}
+use Prim.Native.Nat.{_+_, _*_, _-_, _≤_}
 use native.Mathlib.Omega.{arith}
+use lib.ListN.{length, length-set}
+use borrow.Author.Needs.{needs}
+use Rattle.laws.specs.Interval.{between}
+use Rattle.words.specs.Words.{written}
+use Rattle.words.proofs.Runs.{write-first, write-next, zeros-painted}
 use Rattle.words.proofs.zero_run.Statement.{statement}
 use Rattle.words.proofs.zero_run.Tie as tie
 
