@@ -43,7 +43,11 @@ agree true b = b
 agree false true = false
 agree false false = true
 
-pub agreed : (a b : Bool) → agree a b ≡ true → a ≡ b
+agreed : (a b : Bool) → agree a b ≡ true → a ≡ b
 agreed true b e = sym e
 agreed false true e = absurd (true≢false (sym e))
 agreed false false e = refl
+
+-- two tests of a number below k are equal, by one test that antt computes
+pub agreed-below : (k : ℕ) (f g : ℕ → Bool) → allBelow k (λ n. agree (f n) (g n)) ≡ true → (n : ℕ) → n < k → f n ≡ g n
+agreed-below k f g t n h = agreed (f n) (g n) (each k (λ m. agree (f m) (g m)) t n h)

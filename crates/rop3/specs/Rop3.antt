@@ -26,16 +26,21 @@ result t p s d = bit t (4 * p + 2 * s + d)
 unfoldable pub applied : ℕ → ℕ → ℕ → ℕ → ℕ
 applied t pat src dst = fromBits 16 (λ n. result t (bit pat n) (bit src n) (bit dst n))
 
+-- two results are different
 abbrev pub differ : ℕ → ℕ → Bool
 differ a b = not (eqb a b)
 
+-- some a and b give different results for x = 0 and 1
+abbrev pub uses : (ℕ → ℕ → ℕ → ℕ) → Bool
+uses f = anyBelow 2 (λ a. anyBelow 2 (λ b. differ (f a b 0) (f a b 1)))
+
 -- some P and D give different results for S = 0 and 1
 abbrev pub usesSrc : ℕ → Bool
-usesSrc t = anyBelow 2 (λ p. anyBelow 2 (λ d. differ (result t p 0 d) (result t p 1 d)))
+usesSrc t = uses (λ p d s. result t p s d)
 
 -- some P and S give different results for D = 0 and 1
 abbrev pub usesDst : ℕ → Bool
-usesDst t = anyBelow 2 (λ p. anyBelow 2 (λ s. differ (result t p s 0) (result t p s 1)))
+usesDst t = uses (λ p s d. result t p s d)
 
 -- a multiplexer of bits: a where c is 1, and b where it is 0
 abbrev pub pick : ℕ → ℕ → ℕ → ℕ

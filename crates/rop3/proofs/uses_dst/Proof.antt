@@ -6,7 +6,7 @@ use native.Mathlib.Omega.{arith}
 use lib.Bits.{bitAnd, bitXor}
 use lib.Dec.{eqb}
 use borrow.Author.Needs.{needs}
-use Rattle.laws.proofs.Test.{each, agree, agreed}
+use Rattle.laws.proofs.Test.{agreed-below}
 use Rattle.rop3.specs.Rop3.{usesDst}
 use Rattle.rop3.proofs.uses_dst.Statement.{statement}
 use Rattle.rop3.proofs.uses_dst.Tie as tie
@@ -18,9 +18,7 @@ table-requires : tie.Need-table-requires
 table-requires c κs = search needs
 
 returns : tie.Need-returns
-returns c =
-    let t = c .table .result in
-    agreed (code t) (usesDst t) (each 256 (λ n. agree (code n) (usesDst n)) refl t (omega (arith, c .table .ensures))) ∙ rw (c .table .ensures)
+returns c = agreed-below 256 code usesDst refl (c .table .result) (omega (arith, c .table .ensures)) ∙ rw (c .table .ensures)
 
 pub uses-dst-spec : {M : Type 1} → statement M
 uses-dst-spec = tie.close (tie.spec table-requires returns)

@@ -6,7 +6,7 @@ use native.Mathlib.Omega.{arith}
 use lib.Bits.{bitAnd, bitXor}
 use lib.Dec.{eqb}
 use borrow.Author.Needs.{needs}
-use Rattle.laws.proofs.Test.{each, agree, agreed}
+use Rattle.laws.proofs.Test.{agreed-below}
 use Rattle.rop3.specs.Rop3.{usesSrc}
 use Rattle.rop3.proofs.uses_src.Statement.{statement}
 use Rattle.rop3.proofs.uses_src.Tie as tie
@@ -18,9 +18,7 @@ table-requires : tie.Need-table-requires
 table-requires c κs = search needs
 
 returns : tie.Need-returns
-returns c =
-    let t = c .table .result in
-    agreed (code t) (usesSrc t) (each 256 (λ n. agree (code n) (usesSrc n)) refl t (omega (arith, c .table .ensures))) ∙ rw (c .table .ensures)
+returns c = agreed-below 256 code usesSrc refl (c .table .result) (omega (arith, c .table .ensures)) ∙ rw (c .table .ensures)
 
 pub uses-src-spec : {M : Type 1} → statement M
 uses-src-spec = tie.close (tie.spec table-requires returns)
