@@ -29,7 +29,7 @@ cast-hi : tie.Need-cast-hi
 cast-hi c = omega (arith, c .shared-slice-known2 .given (2 * (c .before .before .args .i) + 1))
 
 mul-result : tie.Need-mul-result
-mul-result c = omega (arith, c .shared-slice-known2 .given (2 * (c .before .before .args .i) + 1))
+mul-result c = omega (arith, c .shared-slice-known2 .given (2 * (c .before .before .args .i) + 1), c .before .shared-slice-known .given (2 * (c .before .before .args .i)))
 
 add-result : tie.Need-add-result
 add-result c = omega (arith, c .shared-slice-known2 .given (2 * (c .before .before .args .i) + 1), c .before .shared-slice-known .given (2 * (c .before .before .args .i)))
