@@ -1,5 +1,5 @@
--- The integers for `omega`: z is positive z - negative z, so a fact of integers is one of naturals. Cases on an integer's
--- sign stand here and nowhere above. Assumes nothing.
+-- The integers for `omega`: z is positive z - negative z, so a fact of integers is one of naturals, and most proofs need no
+-- cases on a sign. Assumes nothing.
 use mathlib.Core.Bool.{Bool, true, false, cond, true≢false}
 use mathlib.Core.Path.{_≡_, refl, sym, _∙_, ap}
 use Prim.Native.Nat.{ℕ, zero, suc, _+_, _-_, _≤_, _<_, min}
