@@ -1,7 +1,7 @@
 //! Compares the proved drawing core with the original: the commands.
 
+mod argument;
 mod crc;
-mod number;
 mod overflow;
 mod primitives;
 mod program;

@@ -2,22 +2,31 @@
 
 use std::fmt;
 
-use crate::number::Number;
+use crate::argument::{Argument, Units};
 
 /// A script's first bytes; one byte for the mode follows.
-pub const MAGIC: &[u8; 4] = b"PRM1";
+pub const MAGIC: &[u8; 4] = b"PRM2";
 /// The length of the longest script.
 pub const LONGEST: usize = 1_048_576;
 pub const ANSWERS: u8 = 0;
 pub const PICTURE: u8 = 1;
 
+/// The bytes of the memory that surfaces lie in.
+pub const MEMORY: usize = 153_600;
+/// The largest side of a surface.
+pub const MAX_SIDE: u32 = 4096;
+/// The bytes of the longest source.
+pub const MAX_SOURCE: u16 = 8192;
+/// The units of the longest text, some more than an operation takes.
+pub const MAX_COUNT: u32 = 65_600;
+
 /// Defines the cases from the document's table: byte, name, arguments.
 macro_rules! cases {
-    ($($byte:literal $name:literal $case:ident { $($argument:ident: $number:ty),* })*) => {
+    ($($byte:literal $name:literal $case:ident { $($argument:ident: $kind:ty),* })*) => {
         /// One case with its arguments.
-        #[derive(Clone, Copy, Debug, PartialEq)]
+        #[derive(Clone, Debug, PartialEq)]
         pub enum Case {
-            $($case { $($argument: $number),* }),*
+            $($case { $($argument: $kind),* }),*
         }
 
         /// The bytes of the cases and their names.
@@ -33,7 +42,7 @@ macro_rules! cases {
             /// Adds the case to a script.
             pub fn write(&self, script: &mut Vec<u8>) {
                 self.byte().write(script);
-                match *self {
+                match self {
                     $(Case::$case { $($argument),* } => { $($argument.write(script);)* })*
                 }
             }
@@ -41,7 +50,7 @@ macro_rules! cases {
             /// Takes a case off the front of a script, whatever its arguments.
             fn read_any(script: &mut &[u8]) -> Option<Case> {
                 Some(match u8::read(script)? {
-                    $($byte => Case::$case { $($argument: Number::read(script)?),* },)*
+                    $($byte => Case::$case { $($argument: Argument::read(script)?),* },)*
                     _ => return None,
                 })
             }
@@ -49,7 +58,7 @@ macro_rules! cases {
 
         impl fmt::Display for Case {
             fn fmt(&self, f: &mut fmt::Formatter<'_>) -> fmt::Result {
-                match *self {
+                match self {
                     $(Case::$case { $($argument),* } => {
                         f.write_str($name)?;
                         $(write!(f, ", {} {}", stringify!($argument), $argument.shown())?;)*
@@ -70,60 +79,99 @@ cases! {
     0x06 "glyph" Glyph { index: u8 }
     0x07 "sweep" Sweep { block: u8 }
     0x10 "surface" Surface { width: u16, height: u16, seed: u32 }
-    0x11 "pattern fill" Fill { x: i32, y: i32, w: i32, h: i32, code: u32, pattern: u16 }
+    0x11 "pattern fill" PatternFill { x: i32, y: i32, w: i32, h: i32, pattern: u16, code: u32 }
     0x12 "blit" Blit {
-        src_w: u16, src_h: u16, seed: u32,
+        dx: i32, dy: i32, sx: i32, sy: i32, w: i32, h: i32,
+        src_w: u32, src_h: u32, src_len: u16, seed: u32,
+        code: u32, pattern: u16
+    }
+    0x13 "blit within" BlitWithin {
         dx: i32, dy: i32, sx: i32, sy: i32, w: i32, h: i32,
         code: u32, pattern: u16
     }
-    0x13 "blit within one row" RowBlit {
-        row: u16, target: u16, source: u16, count: u16, code: u32, pattern: u16
+    0x14 "character" Character { x: i32, y: i32, character: u32, color: u16 }
+    0x15 "fill" Fill { x: i32, y: i32, w: i32, h: i32, color: u16 }
+    0x16 "outline" Outline { x: i32, y: i32, w: i32, h: i32, color: u16 }
+    0x17 "text" Text { x: i32, y: i32, color: u16, count: u32, stop: u32, units: Units }
+    0x18 "lend" Lend { width: u32, height: u32, len: u32 }
+    0x19 "blit between" BlitBetween {
+        order: u8, width: u16, height: u16, src_w: u16, src_h: u16,
+        dx: i32, dy: i32, sx: i32, sy: i32, w: i32, h: i32,
+        code: u32, pattern: u16
     }
-    0x14 "character" Character { x: i16, y: i16, unit: u8, color: u16 }
 }
 
 impl Case {
-    /// Takes a case off the front of a script; `None` if it is a bad one for a
-    /// surface of these sides.
-    pub fn read(script: &mut &[u8], (width, height): (u32, u32)) -> Option<Case> {
+    /// Takes a case off the front of a script; `None` if it is a bad one.
+    pub fn read(script: &mut &[u8]) -> Option<Case> {
         let case = Case::read_any(script)?;
         let good = match case {
             Case::Glyph { index } => index <= 94,
             Case::Surface { width, height, .. } => {
-                (1..=240).contains(&width) && (1..=320).contains(&height)
+                sides(width, height) && bytes_of(width, height) <= MEMORY
             }
-            Case::Blit { src_w, src_h, .. } => {
-                (1..=64).contains(&src_w) && (1..=64).contains(&src_h)
+            Case::Blit { src_len, .. } => src_len <= MAX_SOURCE,
+            Case::Text { count, ref units, .. } => {
+                count <= MAX_COUNT && !units.as_slice().is_empty()
             }
-            Case::RowBlit { row, target, source, count, .. } => {
-                let inside = |column| u32::from(column) + u32::from(count) <= width;
-                u32::from(row) < height && inside(target) && inside(source)
+            Case::Lend { len, .. } => len as usize <= MEMORY,
+            Case::BlitBetween { order, width, height, src_w, src_h, .. } => {
+                order <= 1
+                    && sides(width, height)
+                    && sides(src_w, src_h)
+                    && bytes_of(width, height) + bytes_of(src_w, src_h) <= MEMORY
             }
             _ => true,
         };
         good.then_some(case)
     }
 
-    /// Whether the case draws on the surface.
+    /// The units that a text draws: those before unit 0 or the end.
+    pub fn units_drawn(&self) -> usize {
+        match *self {
+            Case::Text { count, stop, ref units, .. } => {
+                text(count, stop, units).iter().take_while(|unit| **unit != 0).count()
+            }
+            _ => 0,
+        }
+    }
+
+    /// Whether the case draws, on lent bytes or within the memory.
     pub fn draws(&self) -> bool {
-        matches!(
-            self,
-            Case::Fill { .. } | Case::Blit { .. } | Case::RowBlit { .. } | Case::Character { .. }
-        )
+        (0x11..=0x19).contains(&self.byte()) && !matches!(self, Case::Lend { .. })
     }
 }
 
-/// The pixel bytes of a surface or of a blit's source: black if the seed is 0,
-/// else words of the format's generator.
-pub fn pixels(width: u16, height: u16, seed: u32) -> Vec<u8> {
-    let count = usize::from(width) * usize::from(height);
+/// Whether a surface may have these sides.
+fn sides(width: u16, height: u16) -> bool {
+    let side = |n| (1..=MAX_SIDE).contains(&u32::from(n));
+    side(width) && side(height)
+}
+
+/// The bytes that a surface of these sides takes.
+pub fn bytes_of(width: u16, height: u16) -> usize {
+    2 * usize::from(width) * usize::from(height)
+}
+
+/// The bytes of a surface or of a blit's source: black if the seed is 0, else
+/// words of the format's generator.
+pub fn generated(len: usize, seed: u32) -> Vec<u8> {
     if seed == 0 {
-        return vec![0; 2 * count];
+        return vec![0; len];
     }
     let mut n = seed;
     let word = |_| {
         n = n.wrapping_mul(1_103_515_245).wrapping_add(12_345);
         ((n >> 16) as u16).to_le_bytes()
     };
-    (0..count).flat_map(word).collect()
+    let mut bytes: Vec<u8> = (0..len.div_ceil(2)).flat_map(word).collect();
+    bytes.truncate(len);
+    bytes
+}
+
+/// A text's units: `count` of them, going round those given, and 0 at `stop`.
+pub fn text(count: u32, stop: u32, units: &Units) -> Vec<u16> {
+    let round = units.as_slice().iter().cycle().copied();
+    let text = (0..count).zip(round);
+    text.map(|(at, unit)| if at == stop { 0 } else { unit }).collect()
 }

@@ -1,12 +1,18 @@
 //! The drawing primitives: the cases of docs/primitive-cases.md on the original.
 
+mod canvas;
 mod case;
+mod clip;
+mod colors;
 mod drawing;
+mod examples;
+mod lent;
 mod original;
 mod random;
 mod run;
 mod sample;
 mod script;
+mod span;
 mod tally;
 
 pub use drawing::drawing;

@@ -1,163 +1,347 @@
 //! The original's answer to each case.
 
-use pocket_kernel::font::draw_char;
-use pocket_kernel::framebuffer::{colorref_to_rgb565, Framebuffer};
-use pocket_kernel::gdi::{rgb555_to_rgb565, rgb565_to_rgb555, rop3, Surface};
+use pocket_kernel::font::{draw_char, draw_str_u16};
+use pocket_kernel::framebuffer::Framebuffer;
+use pocket_kernel::gdi::Surface;
 
-use super::case::{pixels, Case};
+use super::canvas::Canvas;
+use super::case::{generated, text, Case, MEMORY};
+use super::colors;
+use super::lent::Lent;
 use crate::crc::crc32;
 use crate::overflow::{caught, Overflow};
 
-include!(concat!(env!("OUT_DIR"), "/glyphs.rs"));
-
-/// The surface that the cases draw on, as a panel of the original.
+/// The memory, and what of it the operations are lent.
 pub struct Original {
-    panel: Framebuffer,
+    memory: Vec<u8>,
+    surface: Lent,
+    lent: Lent,
+    /// Whether the next operation is on a panel; every other one is on a bitmap.
+    panel: bool,
 }
 
 /// What a case came to.
+#[derive(Default)]
 pub struct Outcome {
     /// The answer, without the end of the line.
     pub line: String,
-    /// Whether a byte of the surface is another one now.
+    /// The number of the refusal, 0 if there is none.
+    pub refusal: u8,
+    /// Whether a byte of the memory is another one now.
     pub changed: bool,
     /// Whether a dirty mark was made.
     pub marked: bool,
+    /// A text's advance.
+    advance: i32,
+}
+
+/// The pixels that a blit takes.
+struct Source {
+    bytes: Vec<u8>,
+    width: u32,
+    height: u32,
 }
 
 impl Original {
     pub fn new() -> Self {
-        Self { panel: Framebuffer::new(1, 1) }
+        let surface = Lent::surface(1, 1, 0);
+        Self { memory: vec![0; MEMORY], surface, lent: surface, panel: true }
     }
 
-    pub fn sides(&self) -> (u32, u32) {
-        (self.panel.width, self.panel.height)
+    pub fn surface(&self) -> Lent {
+        self.surface
+    }
+
+    /// What the operations of cases 11, 12 and 14 to 17 are lent.
+    pub fn lent(&self) -> Lent {
+        self.lent
     }
 
     /// The surface as a P6 picture.
     pub fn picture(&self) -> Vec<u8> {
-        self.panel.snapshot_ppm()
+        let Lent { width, height, .. } = self.surface;
+        let mut panel = Framebuffer::new(width, height);
+        panel.pixels.copy_from_slice(&self.memory[self.surface.bytes()]);
+        panel.snapshot_ppm()
     }
 
-    /// Works the case out; after an overflow the surface is as it was.
+    /// Works the case out; after an overflow the memory is as it was.
     pub fn answer(&mut self, case: &Case) -> Result<Outcome, Overflow> {
-        let before = self.panel.clone();
-        caught(|| draw(&mut self.panel, case)).inspect_err(|_| self.panel = before.clone())?;
-        let changed = self.panel.pixels != before.pixels;
-        let marked = self.panel.frame_counter != before.frame_counter;
-        let crc = || crc(&self.panel.pixels);
-        let parts = match *case {
-            Case::Pack { colorref } => digits(colorref_to_rgb565(colorref)),
-            Case::Widen { word } => {
-                let rgb = widened(&[word]);
-                format!("{:02x}{:02x}{:02x}", rgb[0], rgb[1], rgb[2])
-            }
-            Case::From555 { word } => digits(rgb555_to_rgb565(word)),
-            Case::To555 { word } => digits(rgb565_to_rgb555(word)),
-            Case::Raster { code, p, s, d } => {
-                let (uses_s, uses_d) = (rop3::uses_src(code), rop3::uses_dst(code));
-                let result = digits(rop3::apply(code, p, s, d));
-                format!("{result} {} {}", u8::from(uses_s), u8::from(uses_d))
-            }
-            Case::Glyph { index } => {
-                format!("{:016x}", u64::from_be_bytes(GLYPHS[usize::from(index)]))
-            }
-            Case::Sweep { block } => sweep(block),
-            Case::Surface { .. } | Case::RowBlit { .. } | Case::Character { .. } => crc(),
-            Case::Fill { .. } | Case::Blit { .. } => format!("{} {}", u8::from(marked), crc()),
+        let mut outcome = Outcome::default();
+        let parts = if let Some(parts) = colors::answer(case) {
+            parts
+        } else if case.draws() {
+            outcome = self.draw(case)?;
+            self.drawn(case, &outcome)
+        } else {
+            self.lend(case);
+            self.crc(self.lent)
         };
-        Ok(Outcome { line: format!("{:02x} {parts}", case.byte()), changed, marked })
+        outcome.line = format!("{:02x} {parts}", case.byte());
+        Ok(outcome)
+    }
+
+    /// Makes a surface, or lends bytes as the case says.
+    fn lend(&mut self, case: &Case) {
+        match *case {
+            Case::Surface { width, height, seed } => {
+                self.surface = Lent::surface(width, height, 0);
+                self.lent = self.surface;
+                let pixels = generated(self.surface.len, seed);
+                self.memory[self.surface.bytes()].copy_from_slice(&pixels);
+            }
+            Case::Lend { width, height, len } => {
+                self.lent = Lent { width, height, at: 0, len: len as usize };
+            }
+            _ => unreachable!("{case} lends nothing"),
+        }
+    }
+
+    /// Has the original draw on a copy of the lent bytes, unless that is refused.
+    fn draw(&mut self, case: &Case) -> Result<Outcome, Overflow> {
+        let target = self.target(case);
+        let refusal = target.refusal(case);
+        if refusal != 0 {
+            return Ok(Outcome { refusal, ..Outcome::default() });
+        }
+        let before = &self.memory[target.bytes()];
+        let canvas = if self.panel { Canvas::panel } else { Canvas::bitmap };
+        let mut canvas = canvas(target.width, target.height, before.to_vec());
+        let source = self.source(case);
+        let advance = caught(|| operate(&mut canvas.surface(), case, source))?;
+        let marked = canvas.marked();
+        let after = canvas.into_pixels();
+        let changed = before != after;
+        self.memory[target.bytes()].copy_from_slice(&after);
+        self.panel = !self.panel;
+        Ok(Outcome { changed, marked, advance, ..Outcome::default() })
+    }
+
+    /// The bytes that the case draws on.
+    pub fn target(&self, case: &Case) -> Lent {
+        match *case {
+            Case::BlitWithin { .. } => self.surface,
+            Case::BlitBetween { .. } => between(case).0,
+            _ => self.lent,
+        }
+    }
+
+    /// The pixels that the case draws, as they are before it; none if it is no blit.
+    fn source(&self, case: &Case) -> Source {
+        let copy = |lent: Lent| Source {
+            bytes: self.memory[lent.bytes()].to_vec(),
+            width: lent.width,
+            height: lent.height,
+        };
+        match *case {
+            Case::Blit { src_w, src_h, src_len, seed, .. } => {
+                let bytes = generated(src_len.into(), seed);
+                Source { bytes, width: src_w, height: src_h }
+            }
+            Case::BlitWithin { .. } => copy(self.surface),
+            Case::BlitBetween { .. } => copy(between(case).1),
+            _ => Source { bytes: Vec::new(), width: 0, height: 0 },
+        }
+    }
+
+    /// The answer to a case that draws, as its parts.
+    fn drawn(&self, case: &Case, outcome: &Outcome) -> String {
+        let Outcome { refusal, advance, .. } = outcome;
+        let mark = u8::from(outcome.marked);
+        let crc = self.crc(self.shown(case));
+        match case {
+            Case::BlitWithin { .. } | Case::BlitBetween { .. } => format!("{mark} {crc}"),
+            Case::Text { .. } => format!("{refusal:02x} {advance:08x} {crc}"),
+            _ => format!("{refusal:02x} {mark} {crc}"),
+        }
+    }
+
+    /// The bytes whose CRC answers the case: between two surfaces those of both.
+    fn shown(&self, case: &Case) -> Lent {
+        match case {
+            Case::BlitBetween { .. } => {
+                let (target, source) = between(case);
+                Lent { at: 0, len: target.len + source.len, ..target }
+            }
+            _ => self.target(case),
+        }
+    }
+
+    fn crc(&self, lent: Lent) -> String {
+        format!("{:08x}", crc32(&self.memory[lent.bytes()]))
     }
 }
 
-/// What the case does to the surface.
-fn draw(panel: &mut Framebuffer, case: &Case) {
-    match *case {
-        Case::Surface { width, height, seed } => {
-            *panel = Framebuffer::new(width.into(), height.into());
-            panel.pixels = pixels(width, height, seed);
-        }
-        Case::Fill { x, y, w, h, code, pattern } => {
-            Surface::Screen(panel).fill_rect_rop(x, y, w, h, pattern, code);
-        }
-        Case::Blit { src_w, src_h, seed, dx, dy, sx, sy, w, h, code, pattern } => {
-            let src = pixels(src_w, src_h, seed);
-            let (src_w, src_h) = (src_w.into(), src_h.into());
-            Surface::Screen(panel)
-                .blit_from_bytes_rop(dx, dy, sx, sy, w, h, &src, src_w, src_h, code, pattern);
-        }
-        Case::RowBlit { row, target, source, count, code, pattern } => {
-            let [y, dx, sx, w] = [row, target, source, count].map(i32::from);
-            let Framebuffer { pixels: src, width, height, .. } = panel.clone();
-            Surface::Screen(panel)
-                .blit_from_bytes_rop(dx, y, sx, y, w, 1, &src, width, height, code, pattern);
-        }
-        Case::Character { x, y, unit, color } => {
-            let unit = char::from(unit);
-            draw_char(&mut Surface::Screen(panel), x.into(), y.into(), unit, color);
-        }
-        _ => {}
-    }
-}
-
-fn crc(bytes: &[u8]) -> String {
-    format!("{:08x}", crc32(bytes))
-}
-
-fn digits(word: u16) -> String {
-    format!("{word:04x}")
-}
-
-/// The sweep over 256 words: the block, then three CRCs.
-fn sweep(block: u8) -> String {
-    let words: Vec<u16> = (0..=255).map(|low| u16::from_be_bytes([block, low])).collect();
-    let each = |convert: fn(u16) -> u16| -> Vec<u8> {
-        words.iter().flat_map(|&word| convert(word).to_be_bytes()).collect()
+/// The target and the source of a blit between two surfaces: one begins the
+/// memory, and the other is right behind it.
+fn between(case: &Case) -> (Lent, Lent) {
+    let Case::BlitBetween { order, width, height, src_w, src_h, .. } = *case else {
+        unreachable!("{case} has no two surfaces");
     };
-    let [rgb, from_555, to_555] =
-        [widened(&words), each(rgb555_to_rgb565), each(rgb565_to_rgb555)].map(|bytes| crc(&bytes));
-    format!("{block:02x} {rgb} {from_555} {to_555}")
+    if order == 0 {
+        let target = Lent::surface(width, height, 0);
+        (target, Lent::surface(src_w, src_h, target.len))
+    } else {
+        let source = Lent::surface(src_w, src_h, 0);
+        (Lent::surface(width, height, source.len), source)
+    }
 }
 
-/// R, G and B of each word. The function that widens is private, so this is
-/// what the two snapshots of a row of these words agree on.
-fn widened(words: &[u16]) -> Vec<u8> {
-    let mut row = Framebuffer::new(words.len() as u32, 1);
-    row.pixels = words.iter().flat_map(|word| word.to_le_bytes()).collect();
-    let ppm = row.snapshot_ppm();
-    let rgb = &ppm[ppm.len() - 3 * words.len()..];
-    let rgba: Vec<u8> = rgb.chunks(3).flat_map(|c| [c[0], c[1], c[2], 255]).collect();
-    assert!(row.snapshot_rgba8888() == rgba, "the original's two snapshots differ");
-    rgb.to_vec()
+/// Has the original draw the case. A text's advance, else 0.
+fn operate(surface: &mut Surface<'_>, case: &Case, source: Source) -> i32 {
+    match *case {
+        Case::PatternFill { x, y, w, h, pattern, code } => {
+            surface.fill_rect_rop(x, y, w, h, pattern, code);
+        }
+        Case::Fill { x, y, w, h, color } => surface.fill_rect(x, y, w, h, color),
+        Case::Outline { x, y, w, h, color } => surface.stroke_rect(x, y, w, h, color),
+        Case::Blit { dx, dy, sx, sy, w, h, code, pattern, .. }
+        | Case::BlitWithin { dx, dy, sx, sy, w, h, code, pattern }
+        | Case::BlitBetween { dx, dy, sx, sy, w, h, code, pattern, .. } => {
+            let Source { bytes, width, height } = source;
+            surface.blit_from_bytes_rop(dx, dy, sx, sy, w, h, &bytes, width, height, code, pattern);
+        }
+        Case::Character { x, y, character, color } => {
+            // There is no character of some numbers, and so nothing to draw.
+            if let Some(character) = char::from_u32(character) {
+                draw_char(surface, x, y, character, color);
+            }
+        }
+        Case::Text { x, y, color, count, stop, ref units } => {
+            return draw_str_u16(surface, x, y, &text(count, stop, units), color);
+        }
+        _ => unreachable!("{case} draws nothing"),
+    }
+    0
 }
 
 #[cfg(test)]
 mod tests {
     use super::*;
+    use crate::argument::Units;
+    use pocket_kernel::gdi::rop3::SRCCOPY;
+
+    /// An original with a surface of these sides and words.
+    fn with_surface(width: u16, height: u16, words: &[u16]) -> Original {
+        let mut original = Original::new();
+        original.lend(&Case::Surface { width, height, seed: 0 });
+        for (bytes, word) in original.memory.chunks_mut(2).zip(words) {
+            bytes.copy_from_slice(&word.to_le_bytes());
+        }
+        original
+    }
+
+    fn words(original: &Original) -> Vec<u16> {
+        let bytes = &original.memory[original.surface.bytes()];
+        bytes.chunks(2).map(|word| u16::from_le_bytes([word[0], word[1]])).collect()
+    }
+
+    /// Whether the case, on a black surface, marked, and the words after it.
+    fn drawn(width: u16, height: u16, case: &Case) -> (bool, Vec<u16>) {
+        let mut original = with_surface(width, height, &[]);
+        let outcome = original.answer(case).unwrap();
+        (outcome.marked, words(&original))
+    }
 
     #[test]
-    fn answers_of_the_published_examples() {
-        let mut original = Original::new();
-        let mut line = |case| original.answer(&case).map(|outcome| outcome.line);
-        assert_eq!(line(Case::Pack { colorref: 0x00C0_C0C0 }), Ok("01 c618".into()));
-        assert_eq!(line(Case::Widen { word: 0x8410 }), Ok("02 848284".into()));
-        assert_eq!(line(Case::From555 { word: 0x0200 }), Ok("03 0420".into()));
-        let b8 = Case::Raster { code: 0x00B8_0000, p: 0x00FF, s: 0x0F0F, d: 0x3333 };
-        assert_eq!(line(b8), Ok("05 03f3 1 1".into()));
-        assert_eq!(line(Case::Glyph { index: 33 }), Ok("06 20508888f8888800".into()));
+    fn the_published_pictures() {
+        let s: Vec<u16> =
+            generated(18, 2).chunks(2).map(|word| u16::from_le_bytes([word[0], word[1]])).collect();
+        let blit = |src_len| {
+            let (dx, dy, sx, sy, w, h, src_w, src_h) = (-1, 1, 0, 0, 3, 3, 3, 3);
+            let (seed, code, pattern) = (2, SRCCOPY, 0);
+            Case::Blit { dx, dy, sx, sy, w, h, src_w, src_h, src_len, seed, code, pattern }
+        };
+        // 2 by 2 from (1, 0) of the source, whole, short by a byte, empty.
+        let picture = vec![0, 0, 0, 0, s[1], s[2], 0, 0, s[4], s[5], 0, 0];
+        let first_row = vec![0, 0, 0, 0, s[1], s[2], 0, 0, 0, 0, 0, 0];
+        assert_eq!(drawn(4, 3, &blit(12)), (true, picture));
+        assert_eq!(drawn(4, 3, &blit(11)), (true, first_row));
+        assert_eq!(drawn(4, 3, &blit(0)), (true, vec![0; 12]));
+        let fill = Case::Fill { x: 4, y: 0, w: i32::MAX - 4, h: 3, color: 7 };
+        assert_eq!(drawn(4, 3, &fill), (false, vec![0; 12]));
+        let outline = Case::Outline { x: 10, y: 10, w: 1, h: 1, color: 7 };
+        assert_eq!(drawn(4, 3, &outline), (true, vec![0; 12]));
+        let a = Case::Character { x: -4, y: 0, character: 0x41, color: 7 };
+        let column =
+            |at: usize| if at.is_multiple_of(4) && (2..=6).contains(&(at / 4)) { 7 } else { 0 };
+        assert_eq!(drawn(4, 8, &a), (false, (0..32).map(column).collect()));
     }
 
     #[test]
     fn an_overflow_is_no_answer_and_no_change() {
-        let mut original = Original::new();
-        let case = Case::Surface { width: 4, height: 3, seed: 1 };
+        let mut original = with_surface(4, 3, &[1; 12]);
+        let fill = |x| Case::Fill { x, y: 0, w: i32::MAX, h: 3, color: 7 };
+        assert!(original.answer(&fill(1)).is_err());
+        assert_eq!(words(&original), [1; 12]);
+        assert!(original.answer(&fill(0)).is_ok_and(|outcome| outcome.changed && outcome.marked));
+        assert_eq!(words(&original), [7; 12]);
+    }
+
+    #[test]
+    fn a_blit_within_the_surface_takes_the_pixels_before_it() {
+        let mut original = with_surface(3, 1, &[0xA, 0xB, 0xC]);
+        let (dx, dy, sx, sy, w, h) = (1, 0, 0, 0, 2, 1);
+        let case = Case::BlitWithin { dx, dy, sx, sy, w, h, code: SRCCOPY, pattern: 0 };
         assert!(original.answer(&case).is_ok());
-        let before = original.panel.clone();
-        let code = rop3::DSTINVERT;
-        let fill = Case::Fill { x: 1, y: 0, w: i32::MAX, h: 3, code, pattern: 0 };
-        assert!(original.answer(&fill).is_err());
-        assert!(original.panel.pixels == before.pixels);
-        let fill = Case::Fill { x: 0, y: 0, w: i32::MAX, h: 3, code, pattern: 0 };
-        assert!(original.answer(&fill).is_ok_and(|outcome| outcome.changed && outcome.marked));
+        assert_eq!(words(&original), [0xA, 0xA, 0xB]);
+    }
+
+    #[test]
+    fn a_blit_between_two_surfaces_goes_either_way() {
+        for (order, after) in [(0, [3, 2, 3]), (1, [1, 2, 1])] {
+            let mut original = with_surface(3, 1, &[1, 2, 3]);
+            let (dx, dy, sx, sy, w, h) = (0, 0, 0, 0, 1, 1);
+            let (width, height, src_w, src_h) =
+                if order == 0 { (2, 1, 1, 1) } else { (1, 1, 2, 1) };
+            let (code, pattern) = (SRCCOPY, 0);
+            let case = Case::BlitBetween {
+                order,
+                width,
+                height,
+                src_w,
+                src_h,
+                dx,
+                dy,
+                sx,
+                sy,
+                w,
+                h,
+                code,
+                pattern,
+            };
+            assert!(original.answer(&case).is_ok_and(|outcome| outcome.marked));
+            assert_eq!(words(&original), after);
+        }
+    }
+
+    #[test]
+    fn the_lent_bytes_are_those_of_the_last_lend() {
+        let mut original = with_surface(2, 1, &[0, 0]);
+        let fill = Case::Fill { x: 1, y: 0, w: 1, h: 1, color: 7 };
+        let lend = |width, height, len| Case::Lend { width, height, len };
+        let mut refusal = |case: &Case| original.answer(case).map(|outcome| outcome.refusal);
+        assert_eq!(refusal(&lend(3, 1, 4)), Ok(0));
+        assert_eq!(refusal(&fill), Ok(8));
+        assert_eq!(refusal(&lend(1, 2, 4)), Ok(0));
+        assert_eq!(refusal(&fill), Ok(0));
+        assert_eq!(words(&original), [0, 0]);
+        assert!(original.answer(&lend(2, 1, 4)).is_ok());
+        assert!(original.answer(&fill).is_ok());
+        assert_eq!(words(&original), [0, 7]);
+    }
+
+    #[test]
+    fn a_text_answers_its_advance_and_marks_nothing() {
+        let mut original = with_surface(12, 8, &[0; 96]);
+        let units = Units::new(vec![0x41, 0xD800]).unwrap();
+        let text =
+            |count, stop| Case::Text { x: 0, y: 0, color: 1, count, stop, units: units.clone() };
+        let outcome = original.answer(&text(3, u32::MAX)).unwrap();
+        assert!(outcome.line.starts_with("17 00 00000012 ") && outcome.changed && !outcome.marked);
+        let outcome = original.answer(&text(3, 1)).unwrap();
+        assert!(outcome.line.starts_with("17 00 00000006 "));
+        let outcome = original.answer(&text(65_536, u32::MAX)).unwrap();
+        assert!(outcome.line.starts_with("17 0a 00000000 ") && !outcome.changed);
     }
 }

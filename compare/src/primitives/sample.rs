@@ -1,6 +1,7 @@
 //! The fixed sample that is replayed at every change.
 
 use super::case::Case;
+use super::examples;
 use super::random::{self, NAMED_CODES};
 use super::script::Script;
 use super::tally::Tally;
@@ -39,13 +40,13 @@ pub fn sample() -> (Script, Tally) {
     packing(&mut cases);
     words(&mut cases);
     raster(&mut cases);
-    examples(&mut cases);
+    examples::add(&mut cases);
     let (mut script, mut tally) = (Script::new(), Tally::default());
     for case in &cases {
-        script.push(*case, &mut tally);
+        script.push(case.clone(), &mut tally);
     }
     assert_eq!(script.cases, cases, "the original has an answer to each of these");
-    random::add(&mut script, 1, 480, random::DRAWING, &mut tally);
+    random::add(&mut script, 1, 1500, random::DRAWING, &mut tally);
     (script, tally)
 }
 
@@ -99,52 +100,4 @@ fn raster(cases: &mut Vec<Case>) {
         let operands = [0; 3].map(|_: u16| rng.next() as u16);
         apply(rng.next() as u32, operands);
     }
-}
-
-/// Small pictures that can be checked by hand.
-fn examples(cases: &mut Vec<Case>) {
-    let (copy, paint) = (0x00CC_0020, 0x00F0_0021);
-    let blit = |dx, dy, sx, sy, w, h| Case::Blit {
-        src_w: 3,
-        src_h: 3,
-        seed: 2,
-        dx,
-        dy,
-        sx,
-        sy,
-        w,
-        h,
-        code: copy,
-        pattern: 0,
-    };
-    let fill = |x, y, w, h| Case::Fill { x, y, w, h, code: paint, pattern: 0xF800 };
-    let row = |target, source, count| Case::RowBlit {
-        row: 0,
-        target,
-        source,
-        count,
-        code: copy,
-        pattern: 0,
-    };
-    cases.extend([
-        // On a fresh surface, 1 by 1 and black.
-        fill(0, 0, 1, 1),
-        Case::Surface { width: 4, height: 3, seed: 0 },
-        blit(-1, 1, 0, 0, 3, 3),
-        blit(0, 0, -1, 1, 3, 3),
-        fill(0, 0, i32::MAX, 1),
-        fill(4, 0, 1, 3),
-        fill(1, 1, 0, 1),
-        fill(-5, -5, 20, 20),
-        // Targets later, earlier, the same, none.
-        Case::Surface { width: 3, height: 1, seed: 1 },
-        row(1, 0, 2),
-        row(0, 1, 2),
-        row(0, 0, 3),
-        row(3, 0, 0),
-        // One column of a character.
-        Case::Surface { width: 4, height: 8, seed: 0 },
-        Case::Character { x: -4, y: 0, unit: b'A', color: 0xFFFF },
-        Case::Character { x: 0, y: 0, unit: 0x7F, color: 0xFFFF },
-    ]);
 }

@@ -1,6 +1,7 @@
 //! Scripts: made case by case with the original's answers, and answered.
 
 use super::case::{Case, ANSWERS, LONGEST, MAGIC, PICTURE};
+use super::lent::Lent;
 use super::original::Original;
 use super::tally::Tally;
 use crate::overflow::Overflow;
@@ -17,9 +18,14 @@ impl Script {
         Self { original: Original::new(), cases: Vec::new(), answers: Vec::new() }
     }
 
-    /// The present surface's width and height.
-    pub fn sides(&self) -> (u32, u32) {
-        self.original.sides()
+    /// The surface after the cases so far.
+    pub fn surface(&self) -> Lent {
+        self.original.surface()
+    }
+
+    /// What the next operation is lent.
+    pub fn lent(&self) -> Lent {
+        self.original.lent()
     }
 
     /// Adds the case, or drops it where the original has no answer.
@@ -27,7 +33,7 @@ impl Script {
         let Ok(outcome) = self.original.answer(&case) else {
             return tally.drop_one();
         };
-        tally.count(&case, &outcome, self.sides());
+        tally.count(&case, &outcome, self.original.target(&case));
         self.cases.push(case);
         self.answers.push(outcome.line);
     }
@@ -55,7 +61,7 @@ pub fn answers(script: &[u8]) -> Result<Vec<u8>, String> {
     let mut original = Original::new();
     let mut out = Vec::new();
     while !rest.is_empty() {
-        let Some(case) = Case::read(&mut rest, original.sides()) else {
+        let Some(case) = Case::read(&mut rest) else {
             out.extend_from_slice(b"bad case\n");
             return Ok(out);
         };
@@ -76,15 +82,60 @@ pub fn answers(script: &[u8]) -> Result<Vec<u8>, String> {
 #[cfg(test)]
 mod tests {
     use super::*;
+    use crate::argument::Units;
 
     fn printed(mode: u8, cases: &[u8]) -> String {
         let script = [MAGIC.as_slice(), &[mode], cases].concat();
         String::from_utf8(answers(&script).unwrap()).unwrap()
     }
 
+    fn bytes(case: Case) -> Vec<u8> {
+        let mut bytes = Vec::new();
+        case.write(&mut bytes);
+        bytes
+    }
+
+    fn surface(width: u16, height: u16) -> Vec<u8> {
+        bytes(Case::Surface { width, height, seed: 0 })
+    }
+
+    fn source(src_len: u16) -> Vec<u8> {
+        let (dx, dy, sx, sy, w, h) = (1, 1, 1, 1, 1, 1);
+        let (src_w, src_h, seed, code, pattern) = (0, u32::MAX, 1, 0, 0);
+        bytes(Case::Blit { dx, dy, sx, sy, w, h, src_w, src_h, src_len, seed, code, pattern })
+    }
+
+    fn text(count: u32, units: Vec<u16>) -> Vec<u8> {
+        let units = Units::new(units).unwrap();
+        bytes(Case::Text { x: 0, y: 0, color: 0, count, stop: 0, units })
+    }
+
+    fn lend(len: u32) -> Vec<u8> {
+        bytes(Case::Lend { width: u32::MAX, height: 0, len })
+    }
+
+    fn between(order: u8, [width, height, src_w, src_h]: [u16; 4]) -> Vec<u8> {
+        let (dx, dy, sx, sy, w, h, code, pattern) = (0, 0, 0, 0, 0, 0, 0, 0);
+        bytes(Case::BlitBetween {
+            order,
+            width,
+            height,
+            src_w,
+            src_h,
+            dx,
+            dy,
+            sx,
+            sy,
+            w,
+            h,
+            code,
+            pattern,
+        })
+    }
+
     #[test]
     fn a_wrong_header_is_a_bad_script() {
-        for script in [b"".as_slice(), b"PRM1", b"PRM2\0", b"PRM1\x02", b"prm1\0\x06\0"] {
+        for script in [b"".as_slice(), b"PRM2", b"PRM1\0", b"PRM2\x02", b"prm2\0\x06\0"] {
             assert_eq!(answers(script).unwrap(), b"bad script\n");
         }
         assert_eq!(printed(ANSWERS, &[]), "");
@@ -93,57 +144,67 @@ mod tests {
 
     #[test]
     fn a_bad_case_ends_the_answers() {
-        let surface = |w: u16, h: u16| {
-            let mut bytes = Vec::new();
-            Case::Surface { width: w, height: h, seed: 0 }.write(&mut bytes);
-            bytes
-        };
-        let source = |src_w, src_h| {
-            let (mut bytes, n) = (Vec::new(), 1);
-            let (dx, dy, sx, sy, w, h) = (n, n, n, n, n, n);
-            Case::Blit { src_w, src_h, seed: 1, dx, dy, sx, sy, w, h, code: 0, pattern: 0 }
-                .write(&mut bytes);
-            bytes
-        };
-        let row = |row, target, source, count| {
-            let mut bytes = surface(4, 3);
-            Case::RowBlit { row, target, source, count, code: 0, pattern: 0 }.write(&mut bytes);
-            bytes
+        let cut_short = |mut case: Vec<u8>| {
+            case.pop();
+            case
         };
         let bad = [
             vec![0x00],
             vec![0x08],
-            vec![0x15],
-            vec![0x01, 0, 0, 0],
+            vec![0x1A],
             vec![0x06, 95],
+            cut_short(bytes(Case::Pack { colorref: 0 })),
+            cut_short(surface(1, 1)),
+            cut_short(text(1, vec![0x41, 0x42])),
             surface(0, 1),
             surface(1, 0),
-            surface(241, 1),
-            surface(1, 321),
-            source(0, 1),
-            source(1, 65),
-            row(3, 0, 0, 1),
-            row(0, 3, 0, 2),
-            row(0, 0, 3, 2),
-            row(0, 0xFFFF, 0, 1),
+            surface(4097, 1),
+            surface(1, 4097),
+            surface(241, 320),
+            source(8193),
+            text(65_601, vec![0x41]),
+            text(1, vec![]),
+            lend(153_601),
+            between(2, [1, 1, 1, 1]),
+            between(0, [0, 1, 1, 1]),
+            between(0, [1, 1, 1, 4097]),
+            between(1, [240, 319, 241, 1]),
         ];
         for case in bad {
-            let script = [vec![0x06, 0], case, vec![0x06, 0]].concat();
+            // Nothing follows, so that what is cut short stays so.
+            let script = [vec![0x06, 0], case].concat();
             let lines = printed(ANSWERS, &script);
-            assert!(lines.starts_with("06 0000000000000000\n"), "{script:?}");
-            assert!(lines.ends_with("\nbad case\n"), "{script:?}");
+            assert_eq!(lines, "06 0000000000000000\nbad case\n", "{script:?}");
             assert_eq!(printed(PICTURE, &script), "bad case\n", "{script:?}");
         }
-        for case in [surface(240, 320), source(64, 64), row(2, 2, 0, 2), row(0, 4, 4, 0)] {
-            assert!(!printed(ANSWERS, &case).contains("bad"));
+    }
+
+    #[test]
+    fn the_ends_of_each_range_are_good() {
+        let good = [
+            surface(240, 320),
+            surface(4096, 18),
+            surface(18, 4096),
+            source(8192),
+            text(65_600, vec![0x41; 255]),
+            text(0, vec![0]),
+            lend(153_600),
+            lend(0),
+            between(0, [240, 319, 240, 1]),
+            between(1, [1, 1, 1, 4096]),
+        ];
+        for case in good {
+            let lines = printed(ANSWERS, &case);
+            assert!(lines.lines().count() == 1 && !lines.contains("bad"), "{case:?}");
         }
     }
 
     #[test]
     fn the_picture_is_the_surface() {
-        let fill = Case::Fill { x: 0, y: 0, w: 1, h: 1, code: 0x00F0_0021, pattern: 0x6162 };
-        let mut cases = Vec::new();
-        fill.write(&mut cases);
-        assert_eq!(printed(PICTURE, &cases), "P6\n1 1\n255\nc,\x10");
+        let fill = bytes(Case::Fill { x: 0, y: 0, w: 1, h: 1, color: 0x6162 });
+        assert_eq!(printed(PICTURE, &fill), "P6\n1 1\n255\nc,\x10");
+        // Also if other bytes are lent after it.
+        let script = [surface(2, 1), lend(0), fill].concat();
+        assert_eq!(printed(PICTURE, &script), "P6\n2 1\n255\n\0\0\0\0\0\0");
     }
 }

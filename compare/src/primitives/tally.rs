@@ -3,55 +3,78 @@
 use std::fmt;
 
 use super::case::{Case, KINDS};
+use super::clip::{boxed, cuts, moved, skipped, CUTS, MOVES};
+use super::lent::Lent;
 use super::original::Outcome;
 
-/// The places where a drawing can be cut.
-const CUTS: [&str; 5] = ["left", "right", "top", "bottom", "by the source"];
+/// The numbers of refusals.
+const REFUSALS: [u8; 3] = [6, 8, 10];
+
+/// The cases of one kind, and how many of them did what.
+#[derive(Clone, Copy, Default)]
+struct Kind {
+    cases: u64,
+    accepted: u64,
+    changed: u64,
+    marked: u64,
+}
 
 #[derive(Default)]
 pub struct Tally {
-    /// Cases of each of `KINDS`.
-    kinds: [u64; KINDS.len()],
-    /// Drawing cases, and those of them that changed a byte.
-    drawing: u64,
-    changed: u64,
-    /// Pattern fills and blits, and those of them that made a mark.
-    marking: u64,
-    marked: u64,
-    /// Drawing cases that are clipped and in sight, and how many at each of `CUTS`.
-    clipped: u64,
+    /// In the order of `KINDS`.
+    kinds: [Kind; KINDS.len()],
+    /// Operations refused with each of `REFUSALS`.
+    refused: [u64; REFUSALS.len()],
+    /// Drawings cut at each of `CUTS` that changed a byte.
     cuts: [u64; CUTS.len()],
-    /// Blits within one row whose source and target overlap, the target being
-    /// later or earlier.
-    later: u64,
-    earlier: u64,
+    /// Blits that skipped some rows of the source, and those that skipped all.
+    skipped_some: u64,
+    skipped_all: u64,
+    /// Blits within the surface that overlap, in each of `MOVES`.
+    moves: [u64; MOVES.len()],
     /// Cases left out since the original's sums overflow.
     dropped: u64,
 }
 
 impl Tally {
-    /// Counts a case worked out on a surface of these sides.
-    pub fn count(&mut self, case: &Case, outcome: &Outcome, sides: (u32, u32)) {
+    /// Counts a case that drew on these bytes, if it draws.
+    pub fn count(&mut self, case: &Case, outcome: &Outcome, target: Lent) {
         let kind = KINDS.iter().position(|kind| kind.0 == case.byte());
-        self.kinds[kind.expect("each case has a kind")] += 1;
-        if case.draws() {
-            self.drawing += 1;
-            self.changed += u64::from(outcome.changed);
+        let kind = &mut self.kinds[kind.expect("each case has a kind")];
+        kind.cases += 1;
+        if !case.draws() {
+            return;
         }
-        if let Case::Fill { .. } | Case::Blit { .. } = case {
-            self.marking += 1;
-            self.marked += u64::from(outcome.marked);
+        if let Some(at) = REFUSALS.iter().position(|&number| number == outcome.refusal) {
+            self.refused[at] += 1;
+            return;
         }
-        if let Case::RowBlit { target, source, count, .. } = *case {
-            let overlap = target.abs_diff(source) < count;
-            self.later += u64::from(overlap && target > source);
-            self.earlier += u64::from(overlap && target < source);
-        }
-        if let Some(cuts) = cuts(case, sides) {
-            self.clipped += u64::from(cuts.contains(&true));
-            for (sum, cut) in self.cuts.iter_mut().zip(cuts) {
+        kind.accepted += 1;
+        kind.changed += u64::from(outcome.changed);
+        kind.marked += u64::from(outcome.marked);
+        self.count_clipped(case, outcome, target);
+    }
+
+    /// Counts where an accepted drawing was cut, and how its rows were taken.
+    fn count_clipped(&mut self, case: &Case, outcome: &Outcome, target: Lent) {
+        let Some([x, y]) = boxed(case, target) else { return };
+        if outcome.changed {
+            for (sum, cut) in self.cuts.iter_mut().zip(cuts(&x, &y)) {
                 *sum += u64::from(cut);
             }
+        }
+        match *case {
+            Case::Blit { src_w, src_len, .. } => {
+                let rows = skipped(&x, &y, src_w, src_len);
+                self.skipped_some += u64::from(rows != 0);
+                self.skipped_all += u64::from(rows == y.len);
+            }
+            Case::BlitWithin { .. } => {
+                if let Some(at) = moved(&x, &y) {
+                    self.moves[at] += 1;
+                }
+            }
+            _ => {}
         }
     }
 
@@ -59,80 +82,55 @@ impl Tally {
         self.dropped += 1;
     }
 
-    /// The share of drawing cases that changed a byte, in percent.
-    pub fn share_changed(&self) -> u64 {
-        100 * self.changed / self.drawing.max(1)
+    fn sum(&self, part: fn(&Kind) -> u64) -> u64 {
+        self.kinds.iter().map(part).sum()
     }
-}
 
-/// Where the case's drawing is cut; `None` if no part of it is seen.
-fn cuts(case: &Case, (width, height): (u32, u32)) -> Option<[bool; CUTS.len()]> {
-    // Each axis: begin on the surface, begin in the source, length, source's side.
-    let unclipped = |begin: i64, len: i64| [begin, 0, len, len];
-    let (x, y) = match *case {
-        Case::Fill { x, y, w, h, .. } => {
-            (unclipped(x.into(), w.into()), unclipped(y.into(), h.into()))
-        }
-        Case::Blit { src_w, src_h, dx, dy, sx, sy, w, h, .. } => (
-            [dx.into(), sx.into(), w.into(), src_w.into()],
-            [dy.into(), sy.into(), h.into(), src_h.into()],
-        ),
-        Case::Character { x, y, .. } => (unclipped(x.into(), 5), unclipped(y.into(), 8)),
-        _ => return None,
-    };
-    let [left, right, by_columns] = axis_cuts(x, width.into())?;
-    let [top, bottom, by_rows] = axis_cuts(y, height.into())?;
-    Some([left, right, top, bottom, by_columns || by_rows])
-}
+    /// The share of accepted drawings that changed a byte, in percent.
+    pub fn share_changed(&self) -> u64 {
+        100 * self.sum(|kind| kind.changed) / self.sum(|kind| kind.accepted).max(1)
+    }
 
-/// Whether a stretch is cut at the surface's low end, at its high end, by the
-/// source; `None` if nothing of it is seen.
-fn axis_cuts([begin, from, len, source]: [i64; 4], side: i64) -> Option<[bool; 3]> {
-    let (first, end) = (from.max(0), (from + len).min(source));
-    let (low, high) = (begin + first - from, begin + end - from);
-    (low.max(0) < high.min(side)).then_some([low < 0, high > side, high - low < len])
+    /// The least of all counts that are to be above 0: cases of each kind, and
+    /// of those that draw the ones that changed a byte, refusals, cuts, skipped
+    /// rows and directions.
+    #[cfg(test)]
+    pub fn least(&self) -> u64 {
+        let kinds = self.kinds.iter().map(|kind| kind.cases);
+        let drawing = self.kinds.iter().filter(|kind| kind.accepted != 0);
+        let changed = drawing.map(|kind| kind.changed);
+        let others = [self.skipped_some, self.skipped_all].into_iter();
+        let others = others.chain(self.refused).chain(self.cuts).chain(self.moves);
+        kinds.chain(changed).chain(others).min().unwrap_or_default()
+    }
 }
 
 impl fmt::Display for Tally {
     fn fmt(&self, f: &mut fmt::Formatter<'_>) -> fmt::Result {
-        for ((byte, name), count) in KINDS.iter().zip(self.kinds) {
-            writeln!(f, "  {byte:02x} {name:<20} {count:>10}")?;
+        let titles = ["cases", "accepted", "changed", "marked"];
+        let row = |cells: [String; 4]| cells.map(|cell| format!("{cell:>10}")).concat();
+        writeln!(f, "{:24}{}", "", row(titles.map(String::from)))?;
+        for ((byte, name), kind) in KINDS.iter().zip(&self.kinds) {
+            let Kind { cases, accepted, changed, marked } = kind;
+            let drawing = accepted + changed + marked != 0;
+            let shown = |count: &u64| if drawing { count.to_string() } else { String::new() };
+            let cells = [cases.to_string(), shown(accepted), shown(changed), shown(marked)];
+            writeln!(f, "{:24}{}", format!("  {byte:02x} {name}"), row(cells).trim_end())?;
         }
-        let share = self.share_changed();
-        writeln!(f, "drawing cases {}: {share} % changed a byte ({})", self.drawing, self.changed)?;
-        writeln!(f, "marks made: {} of {} pattern fills and blits", self.marked, self.marking)?;
-        let cuts: Vec<_> = CUTS.iter().zip(self.cuts).map(|(at, n)| format!("{at} {n}")).collect();
-        writeln!(f, "clipped, and in sight: {} ({})", self.clipped, cuts.join(", "))?;
-        let (later, earlier) = (self.later, self.earlier);
-        writeln!(f, "overlapping row blits: target later {later}, earlier {earlier}")?;
+        let (share, accepted) = (self.share_changed(), self.sum(|kind| kind.accepted));
+        writeln!(f, "accepted drawings: {accepted}, of which {share} % changed a byte")?;
+        let numbers = REFUSALS.map(|number| number.to_string());
+        writeln!(f, "refused: {}", listed(&numbers.each_ref().map(String::as_str), &self.refused))?;
+        writeln!(f, "cut, and changed a byte: {}", listed(&CUTS, &self.cuts))?;
+        let (some, all) = (self.skipped_some, self.skipped_all);
+        writeln!(f, "blits with source rows skipped: {some}, all of them: {all}")?;
+        writeln!(f, "overlapping blits within the surface: {}", listed(&MOVES, &self.moves))?;
         write!(f, "dropped, since the original's sums overflow: {}", self.dropped)
     }
 }
 
-#[cfg(test)]
-mod tests {
-    use super::cuts;
-    use crate::primitives::case::Case;
-
-    #[test]
-    fn a_blit_is_cut_by_its_source_and_then_by_the_surface() {
-        let blit = |dx, sx| Case::Blit {
-            src_w: 3,
-            src_h: 3,
-            seed: 1,
-            dx,
-            dy: 1,
-            sx,
-            sy: 0,
-            w: 3,
-            h: 3,
-            code: 0,
-            pattern: 0,
-        };
-        // left, right, top, bottom, by the source; on 4 by 3
-        assert_eq!(cuts(&blit(-1, 0), (4, 3)), Some([true, false, false, true, false]));
-        assert_eq!(cuts(&blit(-1, -1), (4, 3)), Some([false, false, false, true, true]));
-        assert_eq!(cuts(&blit(4, 0), (4, 3)), None);
-        assert_eq!(cuts(&blit(0, 3), (4, 3)), None);
-    }
+/// Names, each with its count.
+fn listed(names: &[&str], counts: &[u64]) -> String {
+    let listed: Vec<_> = names.iter().zip(counts).map(|(at, n)| format!("{at} {n}")).collect();
+    listed.join(", ")
 }

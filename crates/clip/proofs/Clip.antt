@@ -33,6 +33,16 @@ module _ (z : ℤ) (side c : ℕ) (h : c < side) where
       rw (nearest-parts z side, lt-parts (pos c) z)
       (same-order (suc c) (min (positive z) side) (suc (c + negative z)) (positive z + 0) (λ k. omega (arith, one-part z)) (λ k. omega arith))
 
+-- what a stretch of n covers, over the parts
+pub covers-parts : (x : ℤ) (n c : ℕ) → covers x (pos n) c ≡ between (positive x) (positive x + n) (c + negative x)
+covers-parts x n c =
+    let from : leZ x (pos c) ≡ leb (positive x) (c + negative x)
+    = le-parts x (pos c) ∙ same-order (positive x + 0) (c + negative x) (positive x) (c + negative x) (λ h. omega arith) (λ h. omega arith) in
+    let to : ltZ (pos c) (x +ℤ pos n) ≡ ltb (c + negative x) (positive x + n)
+    = lt-parts (pos c) (x +ℤ pos n)
+    ∙ same-order (suc (c + negative (x +ℤ pos n))) (positive (x +ℤ pos n) + 0) (suc (c + negative x)) (positive x + n) (λ h. omega (arith, sum x (pos n))) (λ h. omega (arith, sum x (pos n))) in
+    rw (from, to)
+
 -- a clipped stretch
 module _ (x w : ℤ) (side : ℕ) where
   pub clip-covers : {c : ℕ} → c < side → between (clippedAxis x w side .from) (clippedAxis x w side .to) c ≡ covers x w c

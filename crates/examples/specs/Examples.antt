@@ -1,13 +1,20 @@
 -- The examples marked P: each is what the definitions compute.
-use mathlib.Core.Bool.{false}
+use mathlib.Core.Bool.{true, false}
+use mathlib.Core.List.{[], _∷_}
 use mathlib.Core.Path.{_≡_, refl}
-use Prim.Native.Nat.{_≤_}
-use lib.Dec.{lit≤}
 use lib.IntN.{pos, negsuc}
-use Rattle.rop3.specs.Rop3.{tableOf, applied, usesSrc}
-use Rattle.clip.specs.Blit.{blitAxis, blitRect}
-use Rattle.clip.specs.Clip.{clippedAxis, clippedRect}
+use lib.ListN.{replicate}
+use Rattle.words.specs.Words.{written, word, painted}
 use Rattle.color.specs.Color.{packed, wideRed, wideGreen, wideBlue, from555}
+use Rattle.rop3.specs.Rop3.{tableOf, applied, usesSrc}
+use Rattle.clip.specs.Clip.{clippedAxis}
+use Rattle.clip.specs.Blit.{blitAxis, blitRect}
+use Rattle.font.specs.Font.{glyphs, inkAt}
+use Rattle.surface.specs.Region.{wordsOf}
+use Rattle.fill.specs.Fill.{filled, fillMarks}
+use Rattle.outline.specs.Outline.{outlined, outlineMarks}
+use Rattle.blit.specs.Blit.{blitOf, blitFrom, blitWithin}
+use Rattle.text.specs.Ink.{charInk}
 
 -- COLORREF 0x00C0C0C0 packs to 0xC618, 0xFF000000 to 0
 pub light-gray : packed 0x00C0C0C0 ≡ 0xC618
@@ -50,12 +57,42 @@ pub blit-cut-left : blitRect (negsuc 0) (pos 1) (pos 0) (pos 0) (pos 3) (pos 3) 
 unfolding blitAxis clippedAxis
 blit-cut-left = refl
 
+pub blit-cut-left-pixels
+    : blitFrom (blitOf 4 3 (negsuc 0) (pos 1) (pos 0) (pos 0) (pos 3) (pos 3) 3 3) 0xCC 0 (0x01 ∷ 0x01 ∷ 0x02 ∷ 0x02 ∷ 0x03 ∷ 0x03 ∷ 0x04 ∷ 0x04 ∷ 0x05 ∷ 0x05 ∷ 0x06 ∷ 0x06 ∷ 0x07 ∷ 0x07 ∷ 0x08 ∷ 0x08 ∷ 0x09 ∷ 0x09 ∷ []) (replicate 24 0)
+    ≡ 0 ∷ 0 ∷ 0 ∷ 0 ∷ 0 ∷ 0 ∷ 0 ∷ 0 ∷ 0x02 ∷ 0x02 ∷ 0x03 ∷ 0x03 ∷ 0 ∷ 0 ∷ 0 ∷ 0 ∷ 0x05 ∷ 0x05 ∷ 0x06 ∷ 0x06 ∷ 0 ∷ 0 ∷ 0 ∷ 0 ∷ []
+unfolding blitFrom blitAxis clippedAxis painted written word applied
+blit-cut-left-pixels = refl
+
 -- on 4 by 3, a fill at x = 1, y = 0, w = 2147483647, h = 3 covers from column 1
-pub fill-to-the-edge : clippedRect (pos 1) (pos 0) (pos 2147483647) (pos 3) 4 3 ≡ record { x0 = 1; y0 = 0; x1 = 4; y1 = 3 }
-unfolding clippedAxis
+pub fill-to-the-edge : filled 4 (pos 1) (pos 0) (pos 2147483647) (pos 3) 0x1234 (replicate 24 0) ≡ 0 ∷ 0 ∷ 0x34 ∷ 0x12 ∷ 0x34 ∷ 0x12 ∷ 0x34 ∷ 0x12 ∷ 0 ∷ 0 ∷ 0x34 ∷ 0x12 ∷ 0x34 ∷ 0x12 ∷ 0x34 ∷ 0x12 ∷ 0 ∷ 0 ∷ 0x34 ∷ 0x12 ∷ 0x34 ∷ 0x12 ∷ 0x34 ∷ 0x12 ∷ []
+unfolding painted written
 fill-to-the-edge = refl
 
--- at x = 4 nothing
-pub fill-past-the-edge : clippedRect (pos 4) (pos 0) (pos 2147483647) (pos 3) 4 3 .x1 ≤ clippedRect (pos 4) (pos 0) (pos 2147483647) (pos 3) 4 3 .x0
+-- at x = 4 nothing, no mark
+pub fill-past-the-edge : filled 4 (pos 4) (pos 0) (pos 2147483647) (pos 3) 0x1234 (replicate 24 0) ≡ replicate 24 0
+unfolding painted written
+fill-past-the-edge = refl
+
+pub fill-past-the-edge-unmarked : fillMarks 4 3 (pos 4) (pos 0) (pos 2147483647) (pos 3) ≡ false
 unfolding clippedAxis
-fill-past-the-edge = lit≤ tt
+fill-past-the-edge-unmarked = refl
+
+-- outline at (10, 10), 1 by 1: no pixel, one mark
+pub outline-out-of-sight : outlined 4 (pos 10) (pos 10) (pos 1) (pos 1) 0x1234 (replicate 24 0) ≡ replicate 24 0
+unfolding painted written
+outline-out-of-sight = refl
+
+pub outline-out-of-sight-marked : outlineMarks (pos 1) (pos 1) ≡ true
+outline-out-of-sight-marked = refl
+
+-- on 4 by 8, 'A' at x = -4, y = 0 inks only (0, 2) to (0, 6)
+pub letter-at-the-edge
+    : painted (wordsOf 4 (charInk (negsuc 3) (pos 0) 0x41)) (λ _. 0x1234) (replicate 64 0)
+    ≡ 0 ∷ 0 ∷ 0 ∷ 0 ∷ 0 ∷ 0 ∷ 0 ∷ 0 ∷ 0 ∷ 0 ∷ 0 ∷ 0 ∷ 0 ∷ 0 ∷ 0 ∷ 0 ∷ 0x34 ∷ 0x12 ∷ 0 ∷ 0 ∷ 0 ∷ 0 ∷ 0 ∷ 0 ∷ 0x34 ∷ 0x12 ∷ 0 ∷ 0 ∷ 0 ∷ 0 ∷ 0 ∷ 0 ∷ 0x34 ∷ 0x12 ∷ 0 ∷ 0 ∷ 0 ∷ 0 ∷ 0 ∷ 0 ∷ 0x34 ∷ 0x12 ∷ 0 ∷ 0 ∷ 0 ∷ 0 ∷ 0 ∷ 0 ∷ 0x34 ∷ 0x12 ∷ 0 ∷ 0 ∷ 0 ∷ 0 ∷ 0 ∷ 0 ∷ 0 ∷ 0 ∷ 0 ∷ 0 ∷ 0 ∷ 0 ∷ 0 ∷ 0 ∷ []
+unfolding painted written inkAt glyphs
+letter-at-the-edge = refl
+
+-- row a b c, blit 2 wide from 0 to 1: a a b
+pub row-moved-onto-itself : blitWithin (blitOf 3 1 (pos 1) (pos 0) (pos 0) (pos 0) (pos 2) (pos 1) 3 1) 0 0 0xCC 0 (0xA1 ∷ 0xA0 ∷ 0xB1 ∷ 0xB0 ∷ 0xC1 ∷ 0xC0 ∷ []) ≡ 0xA1 ∷ 0xA0 ∷ 0xA1 ∷ 0xA0 ∷ 0xB1 ∷ 0xB0 ∷ []
+unfolding blitWithin painted written word applied
+row-moved-onto-itself = refl

@@ -1,7 +1,7 @@
 // The built-in font: eight rows of eight pixels for each of the characters 0x20 to 0x7E, bit 7 leftmost.
 ghost use mathlib.Core.Path.{_≡_};
 ghost use Prim.Native.Nat.{_<_};
-ghost use Rattle.font.specs.Font.{glyphOf};
+ghost use Rattle.font.specs.Font.{glyphs, glyphOf};
 
 const GLYPHS: [[u8; 8]; 95] = [
     // 0x20 ' '
@@ -196,10 +196,18 @@ const GLYPHS: [[u8; 8]; 95] = [
     [0x40, 0xA8, 0x10, 0x00, 0x00, 0x00, 0x00, 0x00],
 ];
 
+// The whole table.
+pub fn glyphs() -> [[u8; 8]; 95]
+    ensures { λ r. ⌜ r ≡ glyphs ⌝ }
+{
+    GLYPHS
+}
+
 // The eight rows of glyph i, which is the character 0x20 + i. A caller owes that there is one.
 pub fn glyph(i: usize) -> [u8; 8]
     requires { ⌜ i < 95 ⌝ }
     ensures { λ r. ⌜ r ≡ glyphOf i ⌝ }
 {
-    GLYPHS[i]
+    let table = glyphs();
+    table[i]
 }

@@ -7,7 +7,7 @@ use native.Mathlib.Omega.{arith}
 use lib.Dec.{T, leb, ltb}
 use lib.IntN.{ℤ, pos, negsuc, _+ℤ_, _-ℤ_, negℤ, subℕ, natAbs}
 use lib.Signed.{leZ, ltZ, nonNeg}
-use borrow.Author.Tests.{leb-true, ltb-true, ltb-false, lt-leb, le-leb}
+use borrow.Author.Tests.{leb-true, leb-false, ltb-true, ltb-false, lt-leb, le-leb}
 use Rattle.laws.specs.Integer.{positive, negative}
 use Rattle.laws.proofs.Test.{same-order}
 
@@ -91,3 +91,16 @@ tested-negative (negsuc n) e = refl
 pub tested-positive : (z : ℤ) → ltZ z (pos 0) ≡ false → negative z ≡ 0
 tested-positive (pos n) e = refl
 tested-positive (negsuc n) e = absurd (true≢false e)
+
+-- an extent of the code's, tested against 0
+pub not-positive : (z : ℤ) → leZ z (pos 0) ≡ true → ltZ (pos 0) z ≡ false
+not-positive (pos n) e = lt-leb 1 n (let h : n ≤ 0 = leb-true n 0 e in omega arith)
+not-positive (negsuc n) e = refl
+
+pub is-positive : (z : ℤ) → leZ z (pos 0) ≡ false → ltZ (pos 0) z ≡ true
+is-positive (pos n) e = le-leb 1 n (let h : 0 < n = leb-false n 0 e in omega arith)
+is-positive (negsuc n) e = absurd (true≢false e)
+
+pub as-natural : (z : ℤ) → leZ z (pos 0) ≡ false → (z ≡ pos (positive z)) × (1 ≤ positive z)
+as-natural (pos n) e = (refl, let h : 0 < n = leb-false n 0 e in omega arith)
+as-natural (negsuc n) e = absurd (true≢false e)

@@ -1,8 +1,11 @@
 -- Laws of tests: a test over all numbers below a bound holds at each of them. Assumes nothing.
 use mathlib.Core.Bool.{Bool, true, false, _&&_, _||_, true≢false}
-use mathlib.Core.Path.{_≡_, refl, sym}
-use Prim.Native.Nat.{ℕ, zero, suc, _≤_, _<_}
+use mathlib.Core.Path.{_≡_, refl, sym, _∙_, ap}
+use Prim.Native.Nat.{ℕ, zero, suc, _+_, _≤_, _<_}
+use native.Mathlib.Decide.{decLt}
 use native.Mathlib.Nat.{le-of-suc-le-suc, not-suc-le-zero}
+use native.Mathlib.Numerals.{add-one}
+use native.Mathlib.Omega.{arith}
 use lib.Dec.{leb}
 use borrow.Author.Tests.{leb-true, le-leb}
 use Rattle.laws.specs.Test.{allBelow, anyBelow}
@@ -10,6 +13,24 @@ use Rattle.laws.specs.Test.{allBelow, anyBelow}
 pub both : (a b : Bool) → (a && b) ≡ true → (a ≡ true) × (b ≡ true)
 both true b e = (refl, e)
 both false b e = absurd (true≢false (sym e))
+
+pub together : {a b : Bool} → a ≡ true → b ≡ true → (a && b) ≡ true
+together e f = rw (e, f)
+
+pub and-true : (b : Bool) → (b && true) ≡ b
+and-true true = refl
+and-true false = refl
+
+-- a conjunction fails with either of its parts
+pub and-false : (b : Bool) → (b && false) ≡ false
+and-false true = refl
+and-false false = refl
+
+pub not-left : {a : Bool} (b : Bool) → a ≡ false → (a && b) ≡ false
+not-left b e = rw e
+
+pub not-right : (a : Bool) {b : Bool} → b ≡ false → (a && b) ≡ false
+not-right a e = rw e (and-false a)
 
 pub neither : (a b : Bool) → (a || b) ≡ false → (a ≡ false) × (b ≡ false)
 neither true b e = absurd (true≢false e)
@@ -26,6 +47,33 @@ pub none : (k : ℕ) (f : ℕ → Bool) → anyBelow k f ≡ false → (n : ℕ)
 none zero f t n h = absurd (not-suc-le-zero h)
 none (suc k) f t zero h = neither (f 0) (anyBelow k (λ m. f (suc m))) t .0
 none (suc k) f t (suc n) h = none k (λ m. f (suc m)) (neither (f 0) (anyBelow k (λ m. f (suc m))) t .1) n (le-of-suc-le-suc h)
+
+-- a test below a bound grows at its end
+or-swap : (a b c : Bool) → (a || (b || c)) ≡ (b || (a || c))
+or-swap true true c = refl
+or-swap true false c = refl
+or-swap false b c = refl
+
+any-suc : (k : ℕ) (f : ℕ → Bool) → anyBelow (suc k) f ≡ (f k || anyBelow k f)
+any-suc zero f = refl
+any-suc (suc k) f = ap (λ (t : Bool). f 0 || t) (any-suc k (λ n. f (suc n))) ∙ or-swap (f 0) (f (suc k)) (anyBelow k (λ n. f (suc n)))
+
+pub any-more : (k : ℕ) (f : ℕ → Bool) → anyBelow (k + 1) f ≡ (f k || anyBelow k f)
+any-more k f = rw (add-one k) (any-suc k f)
+
+-- none below k
+pub any-none : (k : ℕ) (f : ℕ → Bool) → ((j : ℕ) → j < k → f j ≡ false) → anyBelow k f ≡ false
+any-none zero f h = refl
+any-none (suc k) f h = rw (any-suc k f, h k (omega arith)) (any-none k f (λ j lt. h j (omega arith)))
+
+-- none from k to n
+pub any-end : (k n : ℕ) (f : ℕ → Bool) → k ≤ n → ((j : ℕ) → k ≤ j → j < n → f j ≡ false) → anyBelow k f ≡ anyBelow n f
+any-end k zero f le h = let e : k ≡ 0 = omega arith in rw e
+any-end k (suc n) f le h = by (decLt n k) (λ few. any-end k n f few (λ j p q. h j p (omega arith)))
+  where
+    by : Dec (n < k) → (k ≤ n → anyBelow k f ≡ anyBelow n f) → anyBelow k f ≡ anyBelow (suc n) f
+    by (yes l) less = let e : k ≡ suc n = omega arith in rw e
+    by (no l) less = rw (any-suc n f, h n (omega arith) (omega arith)) (less (omega arith))
 
 -- two tests that follow from each other are equal
 pub same-test : (t u : Bool) → (t ≡ true → u ≡ true) → (u ≡ true → t ≡ true) → t ≡ u

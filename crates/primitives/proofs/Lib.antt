@@ -1,4 +1,2 @@
 pub mod Arrays
-pub mod Bounds
-pub mod Clips
-pub mod Coordinates
+pub mod Surfaces

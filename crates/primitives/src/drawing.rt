@@ -1,355 +1,359 @@
-// Cases 11 to 14, which draw on the surface.
+// Cases 11, 12 and 14 to 17: the operations on lent bytes, refused or not.
 use crate::line;
 use crate::line::Reply;
-use crate::surface;
-use crate::surface::Sides;
+use crate::memory;
+use crate::memory::Lent;
+use color::Rgb565;
 ghost use mathlib.Core.Path.{_≡_};
-ghost use Prim.Native.Nat.{_≤_};
+ghost use Prim.Native.Nat.{_+_, _*_, _≤_, _<_};
 ghost use lib.ListN.{length};
-ghost use Rattle.primitives.specs.Cases.{Served, Fitting, Blits, Near};
+ghost use Rattle.primitives.specs.Cases.{Fitting};
+
+// The most units that a case has.
+const MOST_UNITS: usize = 65_600;
+
+// The longest source.
+const LONGEST_SOURCE: usize = 8_192;
+
+// A box on a surface.
+struct Area {
+    x: i32,
+    y: i32,
+    w: i32,
+    h: i32,
+}
+
+// A blit's box: where to, where from, how much.
+pub struct Route {
+    pub dx: i32,
+    pub dy: i32,
+    pub sx: i32,
+    pub sy: i32,
+    pub w: i32,
+    pub h: i32,
+}
 
 // The reply to the case of this byte at the front of c.
-pub fn work_out(kind: u8, c: &[u8], pixels: &mut [u8], sides: Sides) -> Reply
-    requires { ⌜ length (now pixels) ≡ 153600 ⌝ }
-    requires { ⌜ Served sides ⌝ }
+pub fn work_out(kind: u8, c: &[u8], mem: &mut [u8], lent: Lent) -> Reply
+    requires { ⌜ length (now mem) ≡ 153600 ⌝ }
+    requires { ⌜ lent .len ≤ 153600 ⌝ }
     ensures { λ r. ⌜ Fitting (now (c .entry)) r ⌝ }
 {
     match kind {
-        0x11 => fill(c, pixels, sides),
-        0x12 => blit(c, pixels, sides),
-        0x13 => blit_within(c, pixels, sides),
-        0x14 => character(c, pixels, sides),
+        0x11 => pattern_fill_case(c, mem, lent),
+        0x12 => blit_case(c, mem, lent),
+        0x14 => char_case(c, mem, lent),
+        0x15 => fill_case(c, mem, lent),
+        0x16 => outline_case(c, mem, lent),
+        0x17 => text_case(c, mem, lent),
         _ => line::bad(),
     }
 }
 
+// The reply to a case that was drawn or refused.
+fn drawn_reply(kind: u8, size: usize, drawn: surface::Drawn, mem: &[u8], lent: Lent) -> Reply
+    requires { ⌜ lent .len ≤ length (now mem) ⌝ }
+    ensures { λ r. ⌜ (r .size ≡ size) × (r .line .len ≡ 16) ⌝ }
+{
+    let refusal = (drawn.refusal % 256) as u8;
+    let l = line::start(kind)
+        .space()
+        .hex2(refusal)
+        .space()
+        .flag(drawn.marked);
+    Reply {
+        size,
+        line: memory::with_crc(l, mem, lent.len),
+    }
+}
+
+// The box of cases 11, 15 and 16.
+fn read_area(c: &[u8]) -> Area
+    requires { ⌜ 17 ≤ length (now c) ⌝ }
+{
+    Area {
+        x: bigendian::read_i32(c, 1),
+        y: bigendian::read_i32(c, 5),
+        w: bigendian::read_i32(c, 9),
+        h: bigendian::read_i32(c, 13),
+    }
+}
+
+// The box of a blit, from `at` on.
+pub fn read_route(c: &[u8], at: usize) -> Route
+    requires { ⌜ at + 24 ≤ length (now c) ⌝ }
+{
+    Route {
+        dx: bigendian::read_i32(c, at),
+        dy: bigendian::read_i32(c, at + 4),
+        sx: bigendian::read_i32(c, at + 8),
+        sy: bigendian::read_i32(c, at + 12),
+        w: bigendian::read_i32(c, at + 16),
+        h: bigendian::read_i32(c, at + 20),
+    }
+}
+
 // Case 11: a pattern fill.
-fn fill(c: &[u8], pixels: &mut [u8], sides: Sides) -> Reply
-    requires { ⌜ length (now pixels) ≡ 153600 ⌝ }
-    requires { ⌜ Served sides ⌝ }
+fn pattern_fill_case(c: &[u8], mem: &mut [u8], lent: Lent) -> Reply
+    requires { ⌜ length (now mem) ≡ 153600 ⌝ }
+    requires { ⌜ lent .len ≤ 153600 ⌝ }
     ensures { λ r. ⌜ Fitting (now (c .entry)) r ⌝ }
 {
     if c.len() < 23 {
         return line::bad();
     }
-    let marked = fill_named(c, pixels, sides);
-    let line = line::start(0x11).space().flag(marked);
-    Reply {
-        size: 23,
-        line: surface::with_crc(line, pixels, sides),
-    }
+    let drawn = pattern_filled(c, mem, lent);
+    drawn_reply(0x11, 23, drawn, mem, lent)
 }
 
-// The fill that case 11 names. Whether a mark is due.
-fn fill_named(c: &[u8], pixels: &mut [u8], sides: Sides) -> bool
+// The pattern fill that case 11 names.
+fn pattern_filled(c: &[u8], mem: &mut [u8], lent: Lent) -> surface::Drawn
     requires { ⌜ 23 ≤ length (now c) ⌝ }
-    requires { ⌜ length (now pixels) ≡ 153600 ⌝ }
-    requires { ⌜ Served sides ⌝ }
+    requires { ⌜ lent .len ≤ length (now mem) ⌝ }
 {
-    let x = bigendian::read_i32(c, 1);
-    let y = bigendian::read_i32(c, 5);
-    let w = bigendian::read_i32(c, 9);
-    let h = bigendian::read_i32(c, 13);
-    let code = bigendian::read_u32(c, 17);
-    let pattern = bigendian::read_u16(c, 21);
-    fill_box(pixels, sides, x, y, w, h, code, pattern)
-}
-
-// A box under a raster code, as far as it lies on the surface. Whether a mark is due.
-fn fill_box(
-    pixels: &mut [u8],
-    sides: Sides,
-    x: i32,
-    y: i32,
-    w: i32,
-    h: i32,
-    code: u32,
-    pattern: u16,
-) -> bool
-    requires { ⌜ length (now pixels) ≡ 153600 ⌝ }
-    requires { ⌜ Served sides ⌝ }
-{
-    let r = clip::clip_rect(x, y, w, h, sides.w as u32, sides.h as u32);
-    if r.x1 <= r.x0 {
-        return false;
-    }
-    if r.y1 <= r.y0 {
-        return false;
-    }
-    fill_rows(pixels, sides, r, rop3::table(code), pattern);
-    true
-}
-
-// Row after row of a clipped box.
-fn fill_rows(pixels: &mut [u8], sides: Sides, r: clip::Rect, table: u8, pattern: u16)
-    requires { ⌜ length (now pixels) ≡ 153600 ⌝ }
-    requires { ⌜ Served sides ⌝ }
-    requires { ⌜ (r .x0 ≤ r .x1) × ((r .x1 ≤ sides .w) × (r .y1 ≤ sides .h)) ⌝ }
-{
-    let width = sides.w;
-    let x0 = r.x0 as usize;
-    let y0 = r.y0 as usize;
-    let y1 = r.y1 as usize;
-    let columns = (r.x1 - r.x0) as usize;
-    for row in y0..y1 {
-        raster::rop_run(pixels, row * width + x0, columns, table, pattern);
-    }
-}
-
-// Case 12: a blit.
-fn blit(c: &[u8], pixels: &mut [u8], sides: Sides) -> Reply
-    requires { ⌜ length (now pixels) ≡ 153600 ⌝ }
-    requires { ⌜ Served sides ⌝ }
-    ensures { λ r. ⌜ Fitting (now (c .entry)) r ⌝ }
-{
-    if c.len() < 39 {
-        return line::bad();
-    }
-    let w = surface::side(bigendian::read_u16(c, 1), 64);
-    let h = surface::side(bigendian::read_u16(c, 3), 64);
-    if w == 0 {
-        return line::bad();
-    }
-    if h == 0 {
-        return line::bad();
-    }
-    let marked = blit_named(c, pixels, sides, Sides { w, h });
-    let line = line::start(0x12).space().flag(marked);
-    Reply {
-        size: 39,
-        line: surface::with_crc(line, pixels, sides),
-    }
-}
-
-// The blit that case 12 names, from a source of these sides. Whether a mark is due.
-fn blit_named(c: &[u8], pixels: &mut [u8], sides: Sides, src: Sides) -> bool
-    requires { ⌜ 39 ≤ length (now c) ⌝ }
-    requires { ⌜ length (now pixels) ≡ 153600 ⌝ }
-    requires { ⌜ Served sides ⌝ }
-    requires { ⌜ (src .w ≤ 64) × (src .h ≤ 64) ⌝ }
-{
-    let mut source = [0u8; 8192];
-    let seed = bigendian::read_u32(c, 5);
-    surface::fill_words(&mut source, src.w * src.h, seed);
-    blit_box(c, pixels, sides, &source, src)
-}
-
-// The same with the source's pixels at hand.
-fn blit_box(c: &[u8], pixels: &mut [u8], sides: Sides, source: &[u8], src: Sides) -> bool
-    requires { ⌜ 39 ≤ length (now c) ⌝ }
-    requires { ⌜ (length (now pixels) ≡ 153600) × (length (now source) ≡ 8192) ⌝ }
-    requires { ⌜ Served sides ⌝ }
-    requires { ⌜ (src .w ≤ 64) × (src .h ≤ 64) ⌝ }
-{
-    let r = blit_clip(c, sides, src);
-    let table = rop3::table(bigendian::read_u32(c, 33));
-    let pattern = bigendian::read_u16(c, 37);
-    if r.x1 <= r.x0 {
-        return false;
-    }
-    if r.y1 <= r.y0 {
-        return false;
-    }
-    blit_rows(pixels, sides, source, src, r, table, pattern);
-    true
-}
-
-// The part of it that lies on the surface and has source pixels.
-fn blit_clip(c: &[u8], sides: Sides, src: Sides) -> clip::BlitRect
-    requires { ⌜ 39 ≤ length (now c) ⌝ }
-    requires { ⌜ Served sides ⌝ }
-    requires { ⌜ (src .w ≤ 64) × (src .h ≤ 64) ⌝ }
-    ensures { λ r. ⌜ Blits sides src r ⌝ }
-{
-    let dx = bigendian::read_i32(c, 9);
-    let dy = bigendian::read_i32(c, 13);
-    let sx = bigendian::read_i32(c, 17);
-    let sy = bigendian::read_i32(c, 21);
-    let w = bigendian::read_i32(c, 25);
-    let h = bigendian::read_i32(c, 29);
-    clip::clip_blit(
-        dx,
-        dy,
-        sx,
-        sy,
-        w,
-        h,
-        sides.w as u32,
-        sides.h as u32,
-        src.w as u32,
-        src.h as u32,
+    let a = read_area(c);
+    let pattern = Rgb565(bigendian::read_u16(c, 17));
+    let code = bigendian::read_u32(c, 19);
+    let len = lent.len;
+    fill::fill_rect_rop(
+        &mut mem[0..len],
+        lent.w,
+        lent.h,
+        a.x,
+        a.y,
+        a.w,
+        a.h,
+        pattern,
+        code,
     )
 }
 
-// Row after row of a clipped blit.
-fn blit_rows(
-    pixels: &mut [u8],
-    sides: Sides,
-    source: &[u8],
-    src: Sides,
-    r: clip::BlitRect,
-    table: u8,
-    pattern: u16,
-)
-    requires { ⌜ (length (now pixels) ≡ 153600) × (length (now source) ≡ 8192) ⌝ }
-    requires { ⌜ Served sides ⌝ }
-    requires { ⌜ (src .w ≤ 64) × (src .h ≤ 64) ⌝ }
-    requires { ⌜ Blits sides src r ⌝ }
+// Case 15: a fill.
+fn fill_case(c: &[u8], mem: &mut [u8], lent: Lent) -> Reply
+    requires { ⌜ length (now mem) ≡ 153600 ⌝ }
+    requires { ⌜ lent .len ≤ 153600 ⌝ }
+    ensures { λ r. ⌜ Fitting (now (c .entry)) r ⌝ }
 {
-    let width = sides.w;
-    let src_width = src.w;
-    let x0 = r.x0 as usize;
-    let y0 = r.y0 as usize;
-    let src_x0 = r.src_x0 as usize;
-    let src_y0 = r.src_y0 as usize;
-    let columns = (r.x1 - r.x0) as usize;
-    let rows = (r.y1 - r.y0) as usize;
-    for k in 0..rows {
-        let to = (y0 + k) * width + x0;
-        let from = (src_y0 + k) * src_width + src_x0;
-        raster::rop_run_from(pixels, source, to, from, columns, table, pattern);
+    if c.len() < 19 {
+        return line::bad();
     }
+    let drawn = filled(c, mem, lent);
+    drawn_reply(0x15, 19, drawn, mem, lent)
 }
 
-// Case 13: a blit within one row. Its row and columns must lie on the surface.
-fn blit_within(c: &[u8], pixels: &mut [u8], sides: Sides) -> Reply
-    requires { ⌜ length (now pixels) ≡ 153600 ⌝ }
-    requires { ⌜ Served sides ⌝ }
+// The fill that case 15 names.
+fn filled(c: &[u8], mem: &mut [u8], lent: Lent) -> surface::Drawn
+    requires { ⌜ 19 ≤ length (now c) ⌝ }
+    requires { ⌜ lent .len ≤ length (now mem) ⌝ }
+{
+    let a = read_area(c);
+    let color = Rgb565(bigendian::read_u16(c, 17));
+    let len = lent.len;
+    fill::fill_rect(&mut mem[0..len], lent.w, lent.h, a.x, a.y, a.w, a.h, color)
+}
+
+// Case 16: an outline.
+fn outline_case(c: &[u8], mem: &mut [u8], lent: Lent) -> Reply
+    requires { ⌜ length (now mem) ≡ 153600 ⌝ }
+    requires { ⌜ lent .len ≤ 153600 ⌝ }
+    ensures { λ r. ⌜ Fitting (now (c .entry)) r ⌝ }
+{
+    if c.len() < 19 {
+        return line::bad();
+    }
+    let drawn = outlined(c, mem, lent);
+    drawn_reply(0x16, 19, drawn, mem, lent)
+}
+
+// The outline that case 16 names.
+fn outlined(c: &[u8], mem: &mut [u8], lent: Lent) -> surface::Drawn
+    requires { ⌜ 19 ≤ length (now c) ⌝ }
+    requires { ⌜ lent .len ≤ length (now mem) ⌝ }
+{
+    let a = read_area(c);
+    let color = Rgb565(bigendian::read_u16(c, 17));
+    let len = lent.len;
+    outline::stroke_rect(&mut mem[0..len], lent.w, lent.h, a.x, a.y, a.w, a.h, color)
+}
+
+// Case 12: a blit from a source of its own.
+fn blit_case(c: &[u8], mem: &mut [u8], lent: Lent) -> Reply
+    requires { ⌜ length (now mem) ≡ 153600 ⌝ }
+    requires { ⌜ lent .len ≤ 153600 ⌝ }
+    ensures { λ r. ⌜ Fitting (now (c .entry)) r ⌝ }
+{
+    if c.len() < 45 {
+        return line::bad();
+    }
+    let n = bigendian::read_u16(c, 33) as usize;
+    if LONGEST_SOURCE < n {
+        return line::bad();
+    }
+    let drawn = with_source(c, mem, lent, n);
+    drawn_reply(0x12, 45, drawn, mem, lent)
+}
+
+// The blit that case 12 names, from n bytes.
+fn with_source(c: &[u8], mem: &mut [u8], lent: Lent, n: usize) -> surface::Drawn
+    requires { ⌜ (45 ≤ length (now c)) × (n ≤ 8192) ⌝ }
+    requires { ⌜ lent .len ≤ length (now mem) ⌝ }
+{
+    let mut source = [0u8; LONGEST_SOURCE];
+    let seed = bigendian::read_u32(c, 35);
+    memory::fill_words(&mut source, (n + 1) / 2, seed);
+    blitted(c, mem, lent, &source, n)
+}
+
+// The same with the bytes at hand, the first n of source.
+fn blitted(c: &[u8], mem: &mut [u8], lent: Lent, source: &[u8], n: usize) -> surface::Drawn
+    requires { ⌜ (45 ≤ length (now c)) × (n ≤ length (now source)) ⌝ }
+    requires { ⌜ lent .len ≤ length (now mem) ⌝ }
+{
+    let r = read_route(c, 1);
+    let src_w = bigendian::read_u32(c, 25);
+    let src_h = bigendian::read_u32(c, 29);
+    let code = bigendian::read_u32(c, 39);
+    let pattern = Rgb565(bigendian::read_u16(c, 43));
+    let len = lent.len;
+    blit::blit_from_bytes_rop(
+        &mut mem[0..len],
+        lent.w,
+        lent.h,
+        r.dx,
+        r.dy,
+        r.sx,
+        r.sy,
+        r.w,
+        r.h,
+        &source[0..n],
+        src_w,
+        src_h,
+        code,
+        pattern,
+    )
+}
+
+// Case 14: a character.
+fn char_case(c: &[u8], mem: &mut [u8], lent: Lent) -> Reply
+    requires { ⌜ length (now mem) ≡ 153600 ⌝ }
+    requires { ⌜ lent .len ≤ 153600 ⌝ }
     ensures { λ r. ⌜ Fitting (now (c .entry)) r ⌝ }
 {
     if c.len() < 15 {
         return line::bad();
     }
-    if !move_named(c, pixels, sides) {
-        return line::bad();
-    }
-    Reply {
-        size: 15,
-        line: surface::with_crc(line::start(0x13), pixels, sides),
-    }
-}
-
-// The blit that case 13 names. False if it is not on the surface.
-fn move_named(c: &[u8], pixels: &mut [u8], sides: Sides) -> bool
-    requires { ⌜ 15 ≤ length (now c) ⌝ }
-    requires { ⌜ length (now pixels) ≡ 153600 ⌝ }
-    requires { ⌜ Served sides ⌝ }
-{
-    let row = bigendian::read_u16(c, 1) as usize;
-    let to = bigendian::read_u16(c, 3) as usize;
-    let from = bigendian::read_u16(c, 5) as usize;
-    let count = bigendian::read_u16(c, 7) as usize;
-    let code = bigendian::read_u32(c, 9);
-    let pattern = bigendian::read_u16(c, 13);
-    if sides.h <= row {
-        return false;
-    }
-    if sides.w < to + count {
-        return false;
-    }
-    if sides.w < from + count {
-        return false;
-    }
-    let first = row * sides.w;
-    raster::rop_run_within(
-        pixels,
-        first + to,
-        first + from,
-        count,
-        rop3::table(code),
-        pattern,
-    );
-    true
-}
-
-// Case 14: a character.
-fn character(c: &[u8], pixels: &mut [u8], sides: Sides) -> Reply
-    requires { ⌜ length (now pixels) ≡ 153600 ⌝ }
-    requires { ⌜ Served sides ⌝ }
-    ensures { λ r. ⌜ Fitting (now (c .entry)) r ⌝ }
-{
-    if c.len() < 8 {
-        return line::bad();
-    }
-    draw_named(c, pixels, sides);
-    Reply {
-        size: 8,
-        line: surface::with_crc(line::start(0x14), pixels, sides),
-    }
+    let drawn = char_drawn(c, mem, lent);
+    drawn_reply(0x14, 15, drawn, mem, lent)
 }
 
 // The character that case 14 names.
-fn draw_named(c: &[u8], pixels: &mut [u8], sides: Sides)
-    requires { ⌜ 8 ≤ length (now c) ⌝ }
-    requires { ⌜ length (now pixels) ≡ 153600 ⌝ }
-    requires { ⌜ Served sides ⌝ }
+fn char_drawn(c: &[u8], mem: &mut [u8], lent: Lent) -> surface::Drawn
+    requires { ⌜ 15 ≤ length (now c) ⌝ }
+    requires { ⌜ lent .len ≤ length (now mem) ⌝ }
 {
-    let x = bigendian::read_i16(c, 1);
-    let y = bigendian::read_i16(c, 3);
-    let unit = c[5];
-    let color = bigendian::read_u16(c, 6);
-    draw_unit(pixels, sides, x, y, unit, color);
+    let x = bigendian::read_i32(c, 1);
+    let y = bigendian::read_i32(c, 5);
+    let ch = bigendian::read_u32(c, 9);
+    let color = Rgb565(bigendian::read_u16(c, 13));
+    let len = lent.len;
+    text::draw_char(&mut mem[0..len], lent.w, lent.h, x, y, ch, color)
 }
 
-// The ink of a character; there is none outside 0x20 to 0x7E.
-fn draw_unit(pixels: &mut [u8], sides: Sides, x: i32, y: i32, unit: u8, color: u16)
-    requires { ⌜ length (now pixels) ≡ 153600 ⌝ }
-    requires { ⌜ Served sides ⌝ }
-    requires { ⌜ Near x × Near y ⌝ }
+// Case 17: a text.
+fn text_case(c: &[u8], mem: &mut [u8], lent: Lent) -> Reply
+    requires { ⌜ length (now mem) ≡ 153600 ⌝ }
+    requires { ⌜ lent .len ≤ 153600 ⌝ }
+    ensures { λ r. ⌜ Fitting (now (c .entry)) r ⌝ }
 {
-    if unit < 0x20 {
-        return;
+    if c.len() < 20 {
+        return line::bad();
     }
-    if 0x7E < unit {
-        return;
+    let count = bigendian::read_u32(c, 11) as usize;
+    let n = wide(c[19]);
+    if MOST_UNITS < count {
+        return line::bad();
     }
-    draw_rows(
-        pixels,
-        sides,
+    if n == 0 {
+        return line::bad();
+    }
+    if c.len() < 20 + 2 * n {
+        return line::bad();
+    }
+    let drawn = with_units(c, mem, lent, count, n);
+    text_reply(20 + 2 * n, drawn, mem, lent)
+}
+
+// The number of a byte.
+fn wide(n: u8) -> usize
+    ensures { λ r. ⌜ r ≤ 255 ⌝ }
+{
+    n as usize
+}
+
+// The reply to a text that was drawn or refused.
+fn text_reply(size: usize, drawn: surface::Advance, mem: &[u8], lent: Lent) -> Reply
+    requires { ⌜ lent .len ≤ length (now mem) ⌝ }
+    ensures { λ r. ⌜ (r .size ≡ size) × (r .line .len ≡ 23) ⌝ }
+{
+    let refusal = (drawn.refusal % 256) as u8;
+    let l = line::start(0x17)
+        .space()
+        .hex2(refusal)
+        .space()
+        .hex8(drawn.advance);
+    Reply {
+        size,
+        line: memory::with_crc(l, mem, lent.len),
+    }
+}
+
+// The text that case 17 names, of count units that go round n.
+fn with_units(c: &[u8], mem: &mut [u8], lent: Lent, count: usize, n: usize) -> surface::Advance
+    requires { ⌜ (count ≤ 65600) × ((0 < n) × (20 + 2 * n ≤ length (now c))) ⌝ }
+    requires { ⌜ lent .len ≤ length (now mem) ⌝ }
+{
+    let mut units = [0u16; MOST_UNITS];
+    let stop = bigendian::read_u32(c, 15) as usize;
+    put_units(c, &mut units, count, stop, n);
+    text_drawn(c, mem, lent, &units, count)
+}
+
+// The first count units: they go round the n of the case, and number stop is 0.
+fn put_units(c: &[u8], units: &mut [u16], count: usize, stop: usize, n: usize)
+    requires { ⌜ (0 < n) × (20 + 2 * n ≤ length (now c)) ⌝ }
+    requires { ⌜ count ≤ length (now units) ⌝ }
+{
+    for k in 0..count {
+        units[k] = unit(c, 20 + 2 * (k % n), k == stop);
+    }
+}
+
+// The unit at `at`, or 0 where the text is to stop.
+fn unit(c: &[u8], at: usize, stopped: bool) -> u16
+    requires { ⌜ at + 2 ≤ length (now c) ⌝ }
+{
+    if stopped {
+        return 0;
+    }
+    bigendian::read_u16(c, at)
+}
+
+// The same with the units at hand, the first count of them.
+fn text_drawn(c: &[u8], mem: &mut [u8], lent: Lent, units: &[u16], count: usize) -> surface::Advance
+    requires { ⌜ (20 ≤ length (now c)) × (count ≤ length (now units)) ⌝ }
+    requires { ⌜ lent .len ≤ length (now mem) ⌝ }
+{
+    let x = bigendian::read_i32(c, 1);
+    let y = bigendian::read_i32(c, 5);
+    let color = Rgb565(bigendian::read_u16(c, 9));
+    let len = lent.len;
+    text::draw_str_u16(
+        &mut mem[0..len],
+        lent.w,
+        lent.h,
         x,
         y,
-        font::glyph((unit - 0x20) as usize),
+        &units[0..count],
         color,
-    );
-}
-
-// The ink of a glyph.
-fn draw_rows(pixels: &mut [u8], sides: Sides, x: i32, y: i32, rows: [u8; 8], color: u16)
-    requires { ⌜ length (now pixels) ≡ 153600 ⌝ }
-    requires { ⌜ Served sides ⌝ }
-    requires { ⌜ Near x × Near y ⌝ }
-{
-    for k in 0u8..8 {
-        draw_row(pixels, sides, x, further(y, k), rows[k as usize], color);
-    }
-}
-
-// The ink of a glyph's row: five columns, bit 7 the leftmost.
-fn draw_row(pixels: &mut [u8], sides: Sides, x: i32, y: i32, bits: u8, color: u16)
-    requires { ⌜ length (now pixels) ≡ 153600 ⌝ }
-    requires { ⌜ Served sides ⌝ }
-    requires { ⌜ Near x ⌝ }
-{
-    let mut rest = bits;
-    for k in 0u8..5 {
-        dot(pixels, sides, further(x, k), y, rest / 128 == 1, color);
-        rest = rest % 128 * 2;
-    }
-}
-
-// A pixel, where it is inked.
-fn dot(pixels: &mut [u8], sides: Sides, x: i32, y: i32, inked: bool, color: u16)
-    requires { ⌜ length (now pixels) ≡ 153600 ⌝ }
-    requires { ⌜ Served sides ⌝ }
-{
-    if inked {
-        fill_box(pixels, sides, x, y, 1, 1, rop3::PATCOPY, color);
-    }
-}
-
-// The coordinate k pixels further.
-fn further(x: i32, k: u8) -> i32
-    requires { ⌜ Near x ⌝ }
-{
-    x + (k as i32)
+    )
 }

@@ -3,23 +3,26 @@
 mod colors;
 mod drawing;
 mod line;
+mod memory;
 mod picture;
-mod surface;
+mod within;
 
 use libc::STDIN_FILENO;
 use libc::STDOUT_FILENO;
-use surface::Answer;
-use surface::Sides;
+use line::Reply;
+use memory::Answer;
+use memory::Sides;
+use memory::State;
 ghost use mathlib.Core.Path.{_≡_};
 ghost use Prim.Native.Nat.{_<_};
 ghost use lib.ListN.{length};
-ghost use Rattle.primitives.specs.Cases.{Served, Answered};
+ghost use Rattle.primitives.specs.Cases.{Served, Sound, Fitting, Answered};
 
 // A longer script is a bad one.
 const LONGEST: usize = 1_048_576;
 
-// `PRM1`
-const MAGIC: u32 = 0x5052_4D31;
+// `PRM2`
+const MAGIC: u32 = 0x5052_4D32;
 
 // The magic number and the mode.
 const HEADER: usize = 5;
@@ -34,7 +37,7 @@ enum Mode {
 // How a list of cases ended, and the surface's sides then.
 struct Ended {
     good: bool,
-    sides: Sides,
+    surface: Sides,
 }
 
 // Reads the script, and one byte more if it is too long.
@@ -73,34 +76,43 @@ fn mode_of(s: &[u8]) -> Mode {
 
 // Prints the answers if they are shown, else writes the picture after a script with no bad case.
 fn perform(s: &[u8], shown: bool) {
-    let mut pixels = [0u8; 153_600];
-    let ended = run_cases(s, &mut pixels, shown);
+    let mut mem = [0u8; 2 * memory::WORDS];
+    let ended = run_cases(s, &mut mem, shown);
     if shown {
         return;
     }
     if ended.good {
-        picture::write(&pixels, ended.sides);
+        picture::write(&mem, ended.surface);
     }
 }
 
 // Works out case after case, and prints the answers if they are shown.
-fn run_cases(s: &[u8], pixels: &mut [u8], shown: bool) -> Ended
-    requires { ⌜ length (now pixels) ≡ 153600 ⌝ }
-    ensures { λ r. ⌜ Served (r .sides) ⌝ }
+fn run_cases(s: &[u8], mem: &mut [u8], shown: bool) -> Ended
+    requires { ⌜ length (now mem) ≡ 153600 ⌝ }
+    ensures { λ r. ⌜ Served (r .surface) ⌝ }
 {
     let mut at = HEADER;
-    let mut sides = Sides { w: 1, h: 1 };
+    let mut state = memory::first();
     while at < s.len() {
-        let given = work_out(&s[at..], pixels, sides);
+        let given = work_out(&s[at..], mem, state);
         if given.size == 0 {
             print_bad_case();
-            return Ended { good: false, sides };
+            return end_at(state, false);
         }
         line::show(given.line, shown);
-        sides = given.sides;
+        state = given.state;
         at += given.size;
     }
-    Ended { good: true, sides }
+    end_at(state, true)
+}
+
+// The end at this state.
+fn end_at(state: State, good: bool) -> Ended
+    requires { ⌜ Sound state ⌝ }
+    ensures { λ r. ⌜ Served (r .surface) ⌝ }
+{
+    let surface = state.surface;
+    Ended { good, surface }
 }
 
 // The whole output for a bad script.
@@ -114,18 +126,31 @@ fn print_bad_case() {
 }
 
 // The answer to the case at the front of c.
-fn work_out(c: &[u8], pixels: &mut [u8], sides: Sides) -> Answer
+fn work_out(c: &[u8], mem: &mut [u8], state: State) -> Answer
     requires { ⌜ 0 < length (now c) ⌝ }
-    requires { ⌜ length (now pixels) ≡ 153600 ⌝ }
-    requires { ⌜ Served sides ⌝ }
+    requires { ⌜ length (now mem) ≡ 153600 ⌝ }
+    requires { ⌜ Sound state ⌝ }
     ensures { λ r. ⌜ Answered (now (c .entry)) r ⌝ }
 {
-    let kind = c[0];
-    if kind == 0x10 {
-        return surface::make(c, pixels, sides);
+    match c[0] {
+        0x10 => memory::make(c, mem, state),
+        0x18 => memory::lend(c, mem, state),
+        kind => memory::with_state(reply(kind, c, mem, state), state),
     }
+}
+
+// The reply to a case that leaves the state as it is.
+fn reply(kind: u8, c: &[u8], mem: &mut [u8], state: State) -> Reply
+    requires { ⌜ length (now mem) ≡ 153600 ⌝ }
+    requires { ⌜ Sound state ⌝ }
+    ensures { λ r. ⌜ Fitting (now (c .entry)) r ⌝ }
+{
     if kind < 0x10 {
-        return surface::with_sides(colors::work_out(kind, c), sides);
+        return colors::work_out(kind, c);
     }
-    surface::with_sides(drawing::work_out(kind, c, pixels, sides), sides)
+    match kind {
+        0x13 => within::blit_within(c, mem, state.surface),
+        0x19 => within::blit_between(c, mem),
+        _ => drawing::work_out(kind, c, mem, state.lent),
+    }
 }

@@ -1,6 +1,6 @@
 // The surface as a P6 picture.
 use crate::colors;
-use crate::surface::Sides;
+use crate::memory::Sides;
 use libc::STDOUT_FILENO;
 ghost use mathlib.Core.Path.{_≡_};
 ghost use Prim.Native.Nat.{_+_, _*_, _≤_};
@@ -30,8 +30,8 @@ fn write_rows(pixels: &[u8], sides: Sides)
     requires { ⌜ length (now pixels) ≡ 153600 ⌝ }
     requires { ⌜ Served sides ⌝ }
 {
-    let w = sides.w;
-    let h = sides.h;
+    let w = sides.w as usize;
+    let h = sides.h as usize;
     for row in 0..h {
         write_row(pixels, row * w, w);
     }
@@ -39,9 +39,9 @@ fn write_rows(pixels: &[u8], sides: Sides)
 
 // R, G and B of the w words from `first` on.
 fn write_row(pixels: &[u8], first: usize, w: usize)
-    requires { ⌜ (w ≤ 240) × (2 * (first + w) ≤ length (now pixels)) ⌝ }
+    requires { ⌜ (w ≤ 4096) × (2 * (first + w) ≤ length (now pixels)) ⌝ }
 {
-    let mut bytes = [0u8; 720];
+    let mut bytes = [0u8; 12_288];
     for k in 0..w {
         colors::put_rgb(&mut bytes, 3 * k, words::word_at(pixels, first + k));
     }

@@ -1,5 +1,5 @@
 // Runs of words under a raster code, given by its table byte: without a source, with a source in another memory, and with one
-// in the same memory. PATCOPY and SRCCOPY have the plain loops, which leave the same.
+// in the same memory. PATCOPY, DSTINVERT and SRCCOPY have plain loops, which leave the same.
 ghost use mathlib.Core.Path.{_≡_};
 ghost use Prim.Native.Nat.{_≤_, _*_, _+_, _-_};
 ghost use lib.ListN.{length};
@@ -8,6 +8,8 @@ ghost use Rattle.words.specs.Words.{painted, word};
 ghost use Rattle.raster.specs.Raster.{ropped};
 
 const PATCOPY_TABLE: u8 = 0xF0;
+
+const DSTINVERT_TABLE: u8 = 0x55;
 
 const SRCCOPY_TABLE: u8 = 0xCC;
 
@@ -18,6 +20,8 @@ pub fn rop_run(mem: &mut [u8], d: usize, n: usize, table: u8, pat: u16)
 {
     if table == PATCOPY_TABLE {
         words::fill_run(mem, d, n, pat);
+    } else if table == DSTINVERT_TABLE {
+        words::invert_run(mem, d, n);
     } else {
         combine_run(mem, d, n, table, pat);
     }

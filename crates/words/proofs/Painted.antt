@@ -9,6 +9,8 @@ use native.Mathlib.Omega.{arith}
 use lib.Dec.{eqb}
 use lib.ListN.{getD, length, set}
 use borrow.Author.Tests.{eq-eqb, ne-eqb}
+use Rattle.laws.specs.Interval.{between}
+use Rattle.laws.proofs.Interval.{between-yes, between-no}
 use Rattle.words.specs.Words.{word, byteOf, painted}
 use Rattle.words.proofs.Written.{length-written, written-at, is-written, written-none, written-same, written-again, written-set}
 
@@ -132,3 +134,27 @@ agree-painted p q v u a b i la lb pq new old = by (p i) refl
         let g : v i ≡ u i = new e in
         simp (painted-at p v a (2 * i) (omega arith), painted-at p v a (2 * i + 1) la, painted-at q u b (2 * i) (omega arith), painted-at q u b (2 * i + 1) lb, even-half i, odd-half i, e, f, g)
     by false e = word-kept p v a i la e ∙ old e ∙ sym (word-kept q u b i lb (sym pq ∙ e))
+
+-- the memory's own words leave it as it is
+pub painted-own : (p : ℕ → Bool) (m : List ℕ) → ((k : ℕ) → getD m k 0 < 256) → m ≡ painted p (word m) m
+painted-own p m bytes = is-painted p (word m) m m refl (λ k lt. by k (p (k / 2)) (ℕ-discrete (k % 2) 0))
+  where
+    own : (k : ℕ) → Dec (k % 2 ≡ 0) → getD m k 0 ≡ byteOf (word m (k / 2)) (k % 2)
+    own k (yes e) =
+        let at : k ≡ 2 * (k / 2) = omega arith in
+        rw e (ap (λ (j : ℕ). getD m j 0) at ∙ low-byte m (k / 2) (bytes (2 * (k / 2))))
+    own k (no u) =
+        let e : k % 2 ≡ 1 = omega arith in
+        let at : k ≡ 2 * (k / 2) + 1 = omega arith in
+        rw e (ap (λ (j : ℕ). getD m j 0) at ∙ high-byte m (k / 2) (bytes (2 * (k / 2))))
+
+    by : (k : ℕ) (t : Bool) → Dec (k % 2 ≡ 0) → getD m k 0 ≡ cond t (byteOf (word m (k / 2)) (k % 2)) (getD m k 0)
+    by k true d = own k d
+    by k false d = refl
+
+-- a word stored where it is
+pub word-again : (m : List ℕ) (i : ℕ) → 2 * i + 1 < length m → ((k : ℕ) → getD m k 0 < 256) → set (set m (2 * i) (word m i % 256)) (2 * i + 1) (word m i / 256) ≡ m
+word-again m i room bytes =
+    ap (λ (l : List ℕ). set (set l (2 * i) (word m i % 256)) (2 * i + 1) (word m i / 256)) (painted-own (λ _. false) m bytes)
+    ∙ painted-set (λ _. false) (between i (i + 1)) (word m) m i room (between-yes i (i + 1) i (omega arith) (omega arith)) (λ j n. between-no i (i + 1) j (λ p q. n (omega arith)))
+    ∙ sym (painted-own (between i (i + 1)) m bytes)

@@ -48,8 +48,40 @@ pub fn zero_run(mem: &mut [u8], d: usize, n: usize)
     }
 }
 
+// Each bit of the run inverted.
+pub fn invert_run(mem: &mut [u8], d: usize, n: usize)
+    requires { ⌜ 2 * (d + n) ≤ length (now mem) ⌝ }
+    ensures { λ _. ⌜ now (mem .exit) ≡ painted (between d (d + n)) (λ i. 65535 - word (now (mem .entry)) i) (now (mem .entry)) ⌝ }
+{
+    for k in 0..2 * n {
+        mem[2 * d + k] = 255 - mem[2 * d + k];
+    }
+}
+
 // The words of src from s on, at the run of dst.
 pub fn copy_run(dst: &mut [u8], src: &[u8], d: usize, s: usize, n: usize)
+    requires { ⌜ (2 * (d + n) ≤ length (now dst)) × (2 * (s + n) ≤ length (now src)) ⌝ }
+    ensures { λ _. ⌜ now (dst .exit) ≡ painted (between d (d + n)) (λ i. word (now (src .entry)) (s + (i - d))) (now (dst .entry)) ⌝ }
+{
+    if n <= 4096 {
+        copy_row(dst, src, d, s, n);
+    } else {
+        copy_bytes(dst, src, d, s, n);
+    }
+}
+
+// copy_run for a row of at most 4,096 words, by way of a buffer: of the two loops the compiler makes one move.
+fn copy_row(dst: &mut [u8], src: &[u8], d: usize, s: usize, n: usize)
+    requires { ⌜ (n ≤ 4096) × ((2 * (d + n) ≤ length (now dst)) × (2 * (s + n) ≤ length (now src))) ⌝ }
+    ensures { λ _. ⌜ now (dst .exit) ≡ painted (between d (d + n)) (λ i. word (now (src .entry)) (s + (i - d))) (now (dst .entry)) ⌝ }
+{
+    let mut row = [0u8; 8192];
+    copy_bytes(&mut row, src, 0, s, n);
+    copy_bytes(dst, &row, d, 0, n);
+}
+
+// copy_run byte by byte.
+fn copy_bytes(dst: &mut [u8], src: &[u8], d: usize, s: usize, n: usize)
     requires { ⌜ (2 * (d + n) ≤ length (now dst)) × (2 * (s + n) ≤ length (now src)) ⌝ }
     ensures { λ _. ⌜ now (dst .exit) ≡ painted (between d (d + n)) (λ i. word (now (src .entry)) (s + (i - d))) (now (dst .entry)) ⌝ }
 {
@@ -65,6 +97,6 @@ pub fn move_run(mem: &mut [u8], d: usize, s: usize, n: usize)
     ensures { λ _. ⌜ now (mem .exit) ≡ painted (between d (d + n)) (λ i. word (now (mem .entry)) (s + (i - d))) (now (mem .entry)) ⌝ }
 {
     let mut row = [0u8; 8192];
-    copy_run(&mut row, mem, 0, s, n);
-    copy_run(mem, &row, d, 0, n);
+    copy_bytes(&mut row, mem, 0, s, n);
+    copy_bytes(mem, &row, d, 0, n);
 }

@@ -1,4 +1,4 @@
--- `primitives::perform` is safe and ends: the pixels' array is as long as it is declared, also after the cases. Assumes nothing.
+-- `primitives::perform` is safe and ends: the memory is as long as it is declared, also after the cases. Assumes nothing.
 use mathlib.Core.Path.{_≡_, sym, _∙_}
 use lib.ListN.{length}
 use Rattle.primitives.proofs.Arrays.{zeros}
@@ -11,7 +11,7 @@ slice-aggregate-run-cases c = zeros 153600
 run-cases-requires : tie.Need-run-cases-requires
 run-cases-requires c κs = sym (zeros 153600)
 
--- the pixels after the cases
+-- the memory after the cases
 module _ (c : tie.After-run-cases) where
   kept : length (c .run-cases .last .1 .0) ≡ 153600
   kept = c .run-cases .kept .1 .0 ∙ sym (zeros 153600)

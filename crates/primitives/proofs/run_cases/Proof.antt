@@ -1,17 +1,27 @@
--- `primitives::run_cases` meets its contract. The invariant: the pixels keep their length, and the sides are served. The measure is what is left of the script. Assumes nothing.
+-- `primitives::run_cases` meets its contract. The invariant: the memory keeps its length, and the state is sound. The measure is what is left of the script. Assumes nothing.
 use mathlib.Core.Path.{_≡_}
-use Prim.Native.Nat.{_-_}
+use Prim.Native.Nat.{_+_, _-_}
 use lib.ListN.{length}
+use mir.Syntax.{w64}
+use mir.Val.{Fits}
 use borrow.Author.Needs.{needs}
-use Rattle.primitives.specs.Cases.{Served}
+use Rattle.primitives.specs.Cases.{Sound}
 use Rattle.primitives.proofs.run_cases.Statement.{statement}
 use Rattle.primitives.proofs.run_cases.Tie as tie
 
 abbrev Inv-loop : tie.InvT-loop
-Inv-loop s pixels₀ shown at₀ sides₀ pixels at sides = (length pixels ≡ 153600) × Served sides
+Inv-loop s mem₀ shown at₀ state₀ mem at state = (length mem ≡ 153600) × Sound state
 
 abbrev μ-loop : tie.MeasureT-loop
-μ-loop s pixels₀ shown at₀ sides₀ pixels at sides = length s - at
+μ-loop s mem₀ shown at₀ state₀ mem at state = length s - at
+
+-- where the next case begins
+module _ (c : tie.After-work-out Inv-loop μ-loop) where
+  next-fits : Fits w64 (c .before .before .before .before .loop .at + c .work-out .result .size)
+  next-fits = search needs
+
+first-requires : tie.Need-first-requires Inv-loop μ-loop
+first-requires c κs = search needs
 
 loop-holds : tie.Need-loop-holds Inv-loop μ-loop
 loop-holds c = search needs
@@ -31,6 +41,9 @@ work-out-requires c κs = search needs
 print-bad-case-requires : tie.Need-print-bad-case-requires Inv-loop μ-loop
 print-bad-case-requires c κs = search needs
 
+end-at-requires : tie.Need-end-at-requires Inv-loop μ-loop
+end-at-requires c κs = search needs
+
 same-length : tie.Need-same-length Inv-loop μ-loop
 same-length c = search needs
 
@@ -41,13 +54,16 @@ show-requires : tie.Need-show-requires Inv-loop μ-loop
 show-requires c κs = search needs
 
 add-at : tie.Need-add-at Inv-loop μ-loop
-add-at c = search needs
+add-at c = next-fits (c .before .before .before .before .before .before .before)
 
 loop-less : tie.Need-loop-less Inv-loop μ-loop
 loop-less c = search needs
 
 loop-again : tie.Need-loop-again Inv-loop μ-loop
 loop-again c = search needs
+
+end-at-requires-2 : tie.Need-end-at-requires-2 Inv-loop μ-loop
+end-at-requires-2 c κs = search needs
 
 same-length-2 : tie.Need-same-length-2 Inv-loop μ-loop
 same-length-2 c = search needs
@@ -61,17 +77,20 @@ run-cases-spec =
     (tie.spec
     Inv-loop
     μ-loop
+    first-requires
     loop-holds
     sub-work-out
     part-work-out-start
     part-work-out-end
     work-out-requires
     print-bad-case-requires
+    end-at-requires
     same-length
     returns
     show-requires
     add-at
     loop-less
     loop-again
+    end-at-requires-2
     same-length-2
     returns-2)

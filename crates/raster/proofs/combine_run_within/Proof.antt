@@ -27,7 +27,7 @@ returns : tie.Need-returns
 returns c =
     let a = c .before .before .before .before .before .before .before .before .before .before .args in
     c .before .before .combine-run-from .ensures
-    ∙ through-buffer (applied (a .table) (a .pat)) (a .d) (a .s) (a .n) (a .mem .now) (replicate 8192 0) (λ k. omega (arith, c .before .before .before .before .before .before .before .before .before .slice-known .given k)) (search needs)
+    ∙ through-buffer (applied (a .table) (a .pat)) (a .d) (a .s) (a .n) (a .mem .now) (a .mem .now) (replicate 8192 0) (λ k. omega (arith, c .before .before .before .before .before .before .before .before .before .slice-known .given k)) (search needs)
     (c .before .before .before .before .before .before .copy-run .ensures)
 
 pub combine-run-within-spec : {M : Type 1} → statement M

@@ -7,17 +7,17 @@ use Rattle.words.proofs.Runs.{through-buffer}
 use Rattle.words.proofs.move_run.Statement.{statement}
 use Rattle.words.proofs.move_run.Tie as tie
 
-slice-aggregate-copy-run : tie.Need-slice-aggregate-copy-run
-slice-aggregate-copy-run c = search needs
+slice-aggregate-copy-bytes : tie.Need-slice-aggregate-copy-bytes
+slice-aggregate-copy-bytes c = search needs
 
-copy-run-requires : tie.Need-copy-run-requires
-copy-run-requires c κs = search needs
+copy-bytes-requires : tie.Need-copy-bytes-requires
+copy-bytes-requires c κs = search needs
 
-slice-aggregate-copy-run-2 : tie.Need-slice-aggregate-copy-run-2
-slice-aggregate-copy-run-2 c = search needs
+slice-aggregate-copy-bytes-2 : tie.Need-slice-aggregate-copy-bytes-2
+slice-aggregate-copy-bytes-2 c = search needs
 
-copy-run-requires-2 : tie.Need-copy-run-requires-2
-copy-run-requires-2 c κs = search needs
+copy-bytes-requires-2 : tie.Need-copy-bytes-requires-2
+copy-bytes-requires-2 c κs = search needs
 
 same-length : tie.Need-same-length
 same-length c = search needs
@@ -25,17 +25,17 @@ same-length c = search needs
 returns : tie.Need-returns
 returns c =
     let a = c .before .before .before .before .before .before .before .before .before .before .args in
-    c .before .before .copy-run2 .ensures
-    ∙ through-buffer (λ x _. x) (a .d) (a .s) (a .n) (a .mem .now) (replicate 8192 0) (λ k. omega (arith, c .before .before .before .before .before .before .before .before .before .slice-known .given k)) (search needs)
-    (c .before .before .before .before .before .before .copy-run .ensures)
+    c .before .before .copy-bytes2 .ensures
+    ∙ through-buffer (λ x _. x) (a .d) (a .s) (a .n) (a .mem .now) (a .mem .now) (replicate 8192 0) (λ k. omega (arith, c .before .before .before .before .before .before .before .before .before .slice-known .given k)) (search needs)
+    (c .before .before .before .before .before .before .copy-bytes .ensures)
 
 pub move-run-spec : {M : Type 1} → statement M
 move-run-spec =
     tie.close
     (tie.spec
-    slice-aggregate-copy-run
-    copy-run-requires
-    slice-aggregate-copy-run-2
-    copy-run-requires-2
+    slice-aggregate-copy-bytes
+    copy-bytes-requires
+    slice-aggregate-copy-bytes-2
+    copy-bytes-requires-2
     same-length
     returns)

@@ -1,19 +1,20 @@
 -- `primitives::picture::write_row` is safe and ends. The invariant: the array keeps its length, and k is at most w. Assumes nothing.
-use mathlib.Core.Path.{_≡_}
+use mathlib.Core.Path.{_≡_, sym}
 use Prim.Native.Nat.{_-_, _≤_}
 use lib.ListN.{length}
 use borrow.Author.Needs.{needs}
+use Rattle.primitives.proofs.Arrays.{zeros}
 use Rattle.primitives.proofs.picture.write_row.Statement.{statement}
 use Rattle.primitives.proofs.picture.write_row.Tie as tie
 
 abbrev Inv-loop : tie.InvT-loop
-Inv-loop pixels first w bytes₀ k₀ bytes k = (length bytes ≡ 720) × (k ≤ w)
+Inv-loop pixels first w bytes₀ k₀ bytes k = (length bytes ≡ 12288) × (k ≤ w)
 
 abbrev μ-loop : tie.MeasureT-loop
 μ-loop pixels first w bytes₀ k₀ bytes k = w - k
 
 loop-holds : tie.Need-loop-holds Inv-loop μ-loop
-loop-holds c = search needs
+loop-holds c = (sym (zeros 12288), search needs)
 
 slice-aggregate-put-rgb : tie.Need-slice-aggregate-put-rgb Inv-loop μ-loop
 slice-aggregate-put-rgb c = search needs

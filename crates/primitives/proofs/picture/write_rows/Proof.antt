@@ -1,9 +1,8 @@
 -- `primitives::picture::write_rows` is safe and ends. The invariant: row is at most h. Assumes nothing.
 use Prim.Native.Nat.{_+_, _*_, _-_, _≤_}
 use native.Mathlib.Omega.{arith}
-use native.Mathlib.Nat.{le-refl}
 use borrow.Author.Needs.{needs}
-use Rattle.primitives.proofs.Bounds.{in-surface}
+use Rattle.primitives.proofs.Surfaces.{in-surface}
 use Rattle.primitives.proofs.picture.write_rows.Statement.{statement}
 use Rattle.primitives.proofs.picture.write_rows.Tie as tie
 
@@ -16,10 +15,16 @@ abbrev μ-loop : tie.MeasureT-loop
 -- a turn's row
 module _ (c : tie.In-loop Inv-loop μ-loop) where
   abbrev a : tie.Start Inv-loop μ-loop
-  a = c .before .before .before
+  a = c .before .before .before .before .before
 
-  row-fits : c .before .loop .row * a .args .sides .w + a .args .sides .w ≤ 76800
-  row-fits = in-surface (c .loop-test .taken) (le-refl _) (a .pre .1 .width) (a .pre .1 .height)
+  row-fits : c .before .loop .row * a .args .sides .w + a .args .sides .w ≤ a .args .sides .w * a .args .sides .h
+  row-fits = in-surface (c .before .loop .row) (a .args .sides .w) (a .args .sides .h) (c .loop-test .taken)
+
+cast-w : tie.Need-cast-w Inv-loop μ-loop
+cast-w c = search needs
+
+cast-h : tie.Need-cast-h Inv-loop μ-loop
+cast-h c = search needs
 
 loop-holds : tie.Need-loop-holds Inv-loop μ-loop
 loop-holds c = search needs
@@ -48,6 +53,8 @@ write-rows-spec =
     (tie.spec
     Inv-loop
     μ-loop
+    cast-w
+    cast-h
     loop-holds
     mul-write-row
     write-row-requires

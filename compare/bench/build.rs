@@ -1,0 +1,8 @@
+//! Links the static library that `rt staticlib surface_ffi` writes.
+
+fn main() {
+    let folder = format!("{}/../../target/staticlib", env!("CARGO_MANIFEST_DIR"));
+    println!("cargo:rustc-link-search=native={folder}");
+    println!("cargo:rustc-link-lib=static=surface_ffi");
+    println!("cargo:rerun-if-changed={folder}/libsurface_ffi.a");
+}

@@ -1,0 +1,4 @@
+pub mod Pixels
+pub mod Rows
+pub mod From
+pub mod Within

@@ -1,0 +1,75 @@
+-- A blit, pixel by pixel: which pixels of the destination are drawn, and from which pixel of the source.
+use mathlib.Core.Path.{_≡_}
+use mathlib.Core.Bool.{Bool, _&&_}
+use mathlib.Core.List.{List}
+use mathlib.Core.Logic.{_⊎_}
+use Prim.Native.Nat.{ℕ, _+_, _-_, _*_, _/_, _%_, _≤_, _<_}
+use lib.Dec.{leb}
+use lib.IntN.{ℤ}
+use lib.ListN.{length}
+use Rattle.laws.specs.Interval.{between}
+use Rattle.laws.specs.Integer.{positive}
+use Rattle.words.specs.Words.{word, painted}
+use Rattle.raster.specs.Raster.{ropped}
+use Rattle.clip.specs.declared.BlitRect.{BlitRect}
+use Rattle.clip.specs.Blit.{sourceAt, drawnAt, blitRect}
+use Rattle.surface.specs.Region.{wordsOf, nonempty}
+
+-- A blit's numbers: the destination's sides, where to, where from, how much, and the source's sides.
+pub record Blit : Type 0 where
+  pub width : ℕ
+  pub height : ℕ
+  pub dx : ℤ
+  pub dy : ℤ
+  pub sx : ℤ
+  pub sy : ℤ
+  pub w : ℤ
+  pub h : ℤ
+  pub src-w : ℕ
+  pub src-h : ℕ
+
+abbrev pub blitOf : (width height : ℕ) → (dx dy sx sy w h : ℤ) → (src-w src-h : ℕ) → Blit
+blitOf width height dx dy sx sy w h src-w src-h =
+    record { width = width; height = height; dx = dx; dy = dy; sx = sx; sy = sy; w = w; h = h; src-w = src-w; src-h = src-h }
+
+-- the clipped box, and where in the source it begins
+abbrev pub clipped : Blit → BlitRect
+clipped b = blitRect (b .dx) (b .dy) (b .sx) (b .sy) (b .w) (b .h) (b .width) (b .height) (b .src-w) (b .src-h)
+
+-- the pixels of the clipped box
+abbrev pub region : Blit → (c r : ℕ) → Bool
+region b = drawnAt (b .dx) (b .dy) (b .sx) (b .sy) (b .w) (b .h) (b .src-w) (b .src-h)
+
+-- one mark, unless the clipped box is empty
+abbrev pub marks : Blit → Bool
+marks b = nonempty (clipped b .x0) (clipped b .x1) (clipped b .y0) (clipped b .y1)
+
+-- the word of the source that is taken for column c and row r of the destination
+abbrev pub sourceWord : Blit → (c r : ℕ) → ℕ
+sourceWord b c r = positive (sourceAt (b .dy) (b .sy) r) * b .src-w + positive (sourceAt (b .dx) (b .sx) c)
+
+-- row r's part of the source bytes, of which there are len, does not pass their end
+abbrev pub rowHeld : Blit → (len r : ℕ) → Bool
+rowHeld b len r =
+    leb (2 * ((clipped b .«src_y0» + (r - clipped b .y0)) * b .src-w + (clipped b .«src_x0» + (clipped b .x1 - clipped b .x0)))) len
+
+-- memory m after a blit from other bytes under a table: a row that they do not hold is skipped
+unfoldable pub blitFrom : Blit → (table pat : ℕ) → (src m : List ℕ) → List ℕ
+blitFrom b table pat src m =
+    painted (wordsOf (b .width) (λ c r. region b c r && rowHeld b (length src) r))
+    (ropped table pat (λ i. word src (sourceWord b (i % b .width) (i / b .width))) m) m
+
+-- memory m after a blit from its surface at word src-at to its surface at word at: source pixels are those before the call
+unfoldable pub blitWithin : Blit → (at src-at table pat : ℕ) → (m : List ℕ) → List ℕ
+blitWithin b at src-at table pat m =
+    painted (λ i. between at (at + b .width * b .height) i && wordsOf (b .width) (region b) (i - at))
+    (ropped table pat (λ i. word m (src-at + sourceWord b ((i - at) % b .width) ((i - at) / b .width))) m) m
+
+-- Both surfaces lie in a memory of len bytes, and they are one or have no word in common.
+pub record Placed (len at src-at : ℕ) (b : Blit) : Type 0 where
+  pub some : 0 < b .width
+  pub narrow : b .width ≤ 4096
+  pub some-source : 0 < b .src-w
+  pub room : 2 * (at + b .width * b .height) ≤ len
+  pub room-source : 2 * (src-at + b .src-w * b .src-h) ≤ len
+  pub apart : ((at ≡ src-at) × (b .width ≡ b .src-w)) ⊎ ((at + b .width * b .height ≤ src-at) ⊎ (src-at + b .src-w * b .src-h ≤ at))

@@ -1,0 +1,2 @@
+pub mod Blit
+pub mod Rows

@@ -1,0 +1,82 @@
+-- The rows of a clipped box, for the loops over them: where each is drawn, where it is taken from, and what some of them leave.
+use mathlib.Core.Path.{_≡_}
+use mathlib.Core.Bool.{Bool, _&&_}
+use mathlib.Core.List.{List}
+use mathlib.Core.Logic.{_⊎_}
+use Prim.Native.Nat.{ℕ, _+_, _-_, _*_, _/_, _%_, _≤_, _<_}
+use lib.Dec.{leb}
+use lib.ListN.{length}
+use Rattle.laws.specs.Interval.{between}
+use Rattle.words.specs.Words.{word, painted}
+use Rattle.raster.specs.Raster.{ropped}
+use Rattle.clip.specs.declared.BlitRect.{BlitRect}
+use Rattle.surface.specs.Region.{wordsOf, rect}
+
+-- the box's number of columns
+abbrev pub columns : BlitRect → ℕ
+columns box = box .x1 - box .x0
+
+-- the word at which row y of the box begins, in the destination and in the source
+abbrev pub rowAt : BlitRect → (width y : ℕ) → ℕ
+rowAt box width y = y * width + box .x0
+
+abbrev pub sourceRowAt : BlitRect → (src-w y : ℕ) → ℕ
+sourceRowAt box src-w y = (box .«src_y0» + (y - box .y0)) * src-w + box .«src_x0»
+
+-- the word of the source that is taken for word i of the destination
+abbrev pub taken : BlitRect → (width src-w i : ℕ) → ℕ
+taken box width src-w i = sourceRowAt box src-w (i / width) + (i % width - box .x0)
+
+-- row y's part of the source bytes, of which there are len, does not pass their end
+abbrev pub held : BlitRect → (src-w len y : ℕ) → Bool
+held box src-w len y = leb (2 * (sourceRowAt box src-w y + columns box)) len
+
+-- memory m with row y drawn from other bytes, if they hold it
+unfoldable pub rowFrom : BlitRect → (width src-w table pat y : ℕ) → (src m : List ℕ) → List ℕ
+rowFrom box width src-w table pat y src m =
+    painted (λ i. between (rowAt box width y) (rowAt box width y + columns box) i && held box src-w (length src) y)
+    (ropped table pat (λ i. word src (sourceRowAt box src-w y + (i - rowAt box width y))) m) m
+
+-- memory m with each row above y that they hold
+unfoldable pub rowsFrom : BlitRect → (width src-w table pat y : ℕ) → (src m : List ℕ) → List ℕ
+rowsFrom box width src-w table pat y src m =
+    painted (wordsOf width (λ c r. rect (box .x0) (box .x1) (box .y0) y c r && held box src-w (length src) r))
+    (ropped table pat (λ i. word src (taken box width src-w i)) m) m
+
+-- memory m with row y drawn from its own words, of a surface at word src-at to one at word at
+unfoldable pub rowWithin : BlitRect → (at width src-at src-w table pat y : ℕ) → (m : List ℕ) → List ℕ
+rowWithin box at width src-at src-w table pat y m =
+    painted (between (at + rowAt box width y) (at + rowAt box width y + columns box))
+    (ropped table pat (λ i. word m (src-at + sourceRowAt box src-w y + (i - (at + rowAt box width y)))) m) m
+
+-- the words of rows top .. bottom of the box, on a surface at word at
+abbrev pub rowsAt : BlitRect → (at width top bottom i : ℕ) → Bool
+rowsAt box at width top bottom i = leb at i && wordsOf width (rect (box .x0) (box .x1) top bottom) (i - at)
+
+-- memory m with those rows drawn from its words as they were
+unfoldable pub rowsWithin : BlitRect → (at width src-at src-w table pat top bottom : ℕ) → (m : List ℕ) → List ℕ
+rowsWithin box at width src-at src-w table pat top bottom m =
+    painted (rowsAt box at width top bottom)
+    (ropped table pat (λ i. word m (src-at + taken box width src-w (i - at))) m) m
+
+-- The box's columns lie on a surface of that width.
+pub record Across (width : ℕ) (box : BlitRect) : Type 0 where
+  pub some : 0 < width
+  pub columns-ordered : box .x0 ≤ box .x1
+  pub rows-ordered : box .y0 ≤ box .y1
+  pub right : box .x1 ≤ width
+
+-- The box lies on a destination of len bytes. The source's words can be counted.
+pub record RoomFrom (len width src-w : ℕ) (box : BlitRect) : Type 0 where
+  pub across : Across width box
+  pub bottom : 2 * (box .y1 * width) ≤ len
+  pub narrow : src-w ≤ 4096
+
+-- The box and its source lie on surfaces of one memory of len bytes, which are one or have no row of theirs in common.
+pub record RoomWithin (len at width src-at src-w : ℕ) (box : BlitRect) : Type 0 where
+  pub across : Across width box
+  pub bottom : 2 * (at + box .y1 * width) ≤ len
+  pub narrow : width ≤ 4096
+  pub right-source : box .«src_x0» + columns box ≤ src-w
+  pub bottom-source : 2 * (src-at + (box .«src_y0» + (box .y1 - box .y0)) * src-w) ≤ len
+  pub apart : ((at ≡ src-at) × (width ≡ src-w)) ⊎ ((at + box .y1 * width ≤ src-at) ⊎ (src-at + (box .«src_y0» + (box .y1 - box .y0)) * src-w ≤ at))

@@ -1,0 +1,12 @@
+-- `font::glyphs` meets its contract. Assumes nothing.
+use mathlib.Core.Path.{refl}
+use Rattle.font.specs.Font.{glyphs}
+use Rattle.font.proofs.glyphs.Statement.{statement}
+use Rattle.font.proofs.glyphs.Tie as tie
+
+returns : tie.Need-returns
+unfolding glyphs
+returns c = refl
+
+pub glyphs-spec : {M : Type 1} → statement M
+glyphs-spec = tie.close (tie.spec returns)

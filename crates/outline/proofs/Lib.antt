@@ -1,0 +1,3 @@
+pub mod Rim
+pub mod Sides
+pub mod Box

@@ -1,0 +1,34 @@
+-- What the code draws of an outline: four sides between the clipped edges of the box.
+use mathlib.Core.Bool.{Bool, _||_}
+use Prim.Native.Nat.{ℕ, suc, _≤_}
+use lib.IntN.{ℤ, pos, _+ℤ_, _-ℤ_}
+use Rattle.clip.specs.Clip.{nearest}
+use Rattle.surface.specs.Region.{rect}
+use Rattle.outline.specs.declared.Edges.{Edges}
+
+-- the first and the last coordinate of x .. x + w, each with the one behind it, on 0 .. side
+unfoldable pub edgesOf : ℤ → ℤ → ℕ → Edges
+edgesOf x w side = record {
+  from = nearest x side;
+  second = nearest (x +ℤ pos 1) side;
+  last = nearest (x +ℤ w -ℤ pos 1) side;
+  to = nearest (x +ℤ w) side;
+}
+
+-- the four sides
+abbrev pub sides : Edges → Edges → (c r : ℕ) → Bool
+sides columns rows c r =
+    rect (columns .last) (columns .to) (rows .from) (rows .to) c r
+    || (rect (columns .from) (columns .second) (rows .from) (rows .to) c r
+    || (rect (columns .from) (columns .to) (rows .last) (rows .to) c r
+    || rect (columns .from) (columns .to) (rows .from) (rows .second) c r))
+
+-- Edges in order, the first and the last coordinate one wide at most, on a side.
+pub record Ordered (e : Edges) (side : ℕ) : Type 0 where
+  pub first : e .from ≤ e .second
+  pub thin-first : e .second ≤ suc (e .from)
+  pub second-in : e .second ≤ side
+  pub across : e .from ≤ e .to
+  pub end : e .last ≤ e .to
+  pub thin-end : e .to ≤ suc (e .last)
+  pub to-in : e .to ≤ side

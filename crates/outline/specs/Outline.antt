@@ -1,0 +1,20 @@
+-- The outline of a box.
+use mathlib.Core.Bool.{Bool, _&&_, not}
+use mathlib.Core.List.{List}
+use Prim.Native.Nat.{ℕ}
+use lib.IntN.{ℤ, pos, _+ℤ_, _-ℤ_}
+use lib.Signed.{ltZ}
+use Rattle.words.specs.Words.{painted}
+use Rattle.surface.specs.Region.{wordsOf, box}
+
+-- one pixel thick: in the box, and not in the one that is a pixel smaller on each side
+abbrev pub rim : (x y w h : ℤ) → (c r : ℕ) → Bool
+rim x y w h c r = box x y w h c r && not (box (x +ℤ pos 1) (y +ℤ pos 1) (w -ℤ pos 2) (h -ℤ pos 2) c r)
+
+-- memory m with a colour at each pixel of the rim
+abbrev pub outlined : (width : ℕ) → (x y w h : ℤ) → (color : ℕ) → (m : List ℕ) → List ℕ
+outlined width x y w h color m = painted (wordsOf width (rim x y w h)) (λ _. color) m
+
+-- it marks whenever w and h are positive
+abbrev pub outlineMarks : (w h : ℤ) → Bool
+outlineMarks w h = ltZ (pos 0) w && ltZ (pos 0) h

@@ -1,0 +1,47 @@
+-- Refusals of the operations on lent bytes, and their answers.
+use mathlib.Core.Bool.{Bool, _&&_, cond}
+use mathlib.Core.List.{List}
+use mathlib.Core.Path.{_≡_}
+use Prim.Native.Nat.{ℕ, _*_, _≤_, _<_}
+use lib.Dec.{leb, eqb}
+use Rattle.surface.specs.declared.Drawn.{Drawn}
+use Rattle.surface.specs.declared.Advance.{Advance}
+
+-- a surface's side: 1 to 4,096
+abbrev pub side : ℕ → Bool
+side n = leb 1 n && leb n 4096
+
+-- a blit's source: 0 to 4,096
+abbrev pub sourceSide : ℕ → Bool
+sourceSide n = leb n 4096
+
+-- 6 a side outside its limit, then 8 bytes not 2·w·h long; 0 if accepted
+unfoldable pub refusalFor : (sides : Bool) → (width height len : ℕ) → ℕ
+refusalFor sides width height len = cond sides (cond (eqb len (2 * (width * height))) 0 8) 6
+
+abbrev pub refusal : (width height len : ℕ) → ℕ
+refusal width height len = refusalFor (side width && side height) width height len
+
+-- the same with a source
+abbrev pub refusalFrom : (width height src-w src-h len : ℕ) → ℕ
+refusalFrom width height src-w src-h len = refusalFor ((side width && side height) && (sourceSide src-w && sourceSide src-h)) width height len
+
+-- A surface in order: sides in their limits, and bytes, of which there are len, as many as they say.
+pub record InOrder (width height len : ℕ) : Type 0 where
+  pub some : 0 < width
+  pub wide : width ≤ 4096
+  pub some-rows : 0 < height
+  pub high : height ≤ 4096
+  pub long : len ≡ 2 * (width * height)
+
+-- a drawing's answer: a refusal gives its number and no mark
+abbrev pub drew : ℕ → Bool → Drawn
+drew number mark = record { refusal = number; marked = eqb number 0 && mark }
+
+-- a text's answer: a refusal gives its number and no advance
+abbrev pub advanced : ℕ → ℕ → Advance
+advanced number advance = record { refusal = number; advance = cond (eqb number 0) advance 0 }
+
+-- the bytes after an operation: a refusal changes none
+abbrev pub unlessRefused : ℕ → (new old : List ℕ) → List ℕ
+unlessRefused number new old = cond (eqb number 0) new old

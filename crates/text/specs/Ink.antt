@@ -1,0 +1,44 @@
+-- The ink of glyphs and of text, pixel by pixel.
+use mathlib.Core.Bool.{Bool, _&&_, cond}
+use mathlib.Core.List.{List, [], _∷_}
+use Prim.Native.Nat.{ℕ, suc, _-_, _*_}
+use lib.Dec.{leb, eqb}
+use lib.IntN.{ℤ, pos, _+ℤ_, _-ℤ_}
+use lib.ListN.{getD}
+use Rattle.laws.specs.Integer.{positive}
+use Rattle.laws.specs.Test.{anyBelow}
+use Rattle.font.specs.Font.{inked}
+use Rattle.surface.specs.Region.{box}
+
+-- how far the coordinate c lies past z
+abbrev pub past : ℤ → ℕ → ℕ
+past z c = positive (pos c -ℤ z)
+
+-- the ink of glyph g with its upper left corner at x, y: eight rows, bit 7 leftmost
+abbrev pub glyphInk : (x y : ℤ) → (g c r : ℕ) → Bool
+glyphInk x y g c r = box x y (pos 8) (pos 8) c r && inked g (past x c) (past y r)
+
+-- 0x20 to 0x7E
+abbrev pub printable : ℕ → Bool
+printable u = leb 0x20 u && leb u 0x7E
+
+-- the ink of a character: nothing outside that range
+abbrev pub charInk : (x y : ℤ) → (ch c r : ℕ) → Bool
+charInk x y ch c r = printable ch && glyphInk x y (ch - 0x20) c r
+
+-- the units before unit 0 or the end
+abbrev pub unitCount : List ℕ → ℕ
+unitCount [] = 0
+unitCount (u ∷ us) = cond (eqb u 0) 0 (suc (unitCount us))
+
+-- the glyph of a unit: outside that range it is the one of '?'
+abbrev pub glyphFor : ℕ → ℕ
+glyphFor u = cond (printable u) (u - 0x20) (0x3F - 0x20)
+
+-- the ink of the first n units: each stands 6 columns right of the one before
+abbrev pub textInk : (units : List ℕ) → (n : ℕ) → (x y : ℤ) → (c r : ℕ) → Bool
+textInk units n x y c r = anyBelow n (λ k. glyphInk (x +ℤ pos (6 * k)) y (glyphFor (getD units k 0)) c r)
+
+-- the number of a text's refusal: as other operations, and last 10, over 65,535 units
+unfoldable pub textRefusal : (number n : ℕ) → ℕ
+textRefusal number n = cond (eqb number 0) (cond (leb n 65535) 0 10) number
