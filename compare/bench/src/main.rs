@@ -55,6 +55,7 @@ fn rows() -> Vec<Row> {
         row("blit table B8 240×320", PANEL, Blit(0x00B8_074A), 0.2),
         row("text, 40 units", PANEL, Text(40), 1.0),
         more("text, 4 units", PANEL, Text(4)),
+        more("text, 1 unit", PANEL, Text(1)),
         row("outline 200×280", PANEL, Outline([20, 20, 200, 280]), 1.0),
     ]
 }
