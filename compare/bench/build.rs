@@ -1,8 +1,9 @@
-//! Links the static library that `rt staticlib surface_ffi` writes.
+//! Says where the static libraries are that `rt staticlib` writes.
 
 fn main() {
     let folder = format!("{}/../../target/staticlib", env!("CARGO_MANIFEST_DIR"));
     println!("cargo:rustc-link-search=native={folder}");
-    println!("cargo:rustc-link-lib=static=surface_ffi");
-    println!("cargo:rerun-if-changed={folder}/libsurface_ffi.a");
+    for library in ["surface_ffi", "calls_bench"] {
+        println!("cargo:rerun-if-changed={folder}/lib{library}.a");
+    }
 }

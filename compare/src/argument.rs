@@ -1,4 +1,4 @@
-//! The arguments of a script's cases, most significant byte first.
+//! The arguments of what a script lists, most significant byte first.
 
 /// A number of a fixed number of bits, or a list of them.
 pub trait Argument: Sized {
@@ -26,7 +26,7 @@ macro_rules! numbers {
                 }
 
                 fn shown(&self) -> String {
-                    if Self::MIN == 0 && i64::from(*self) >= 1000 {
+                    if Self::MIN == 0 && i128::from(*self) >= 1000 {
                         format!("{self:#x}")
                     } else {
                         format!("{self}")
@@ -37,7 +37,7 @@ macro_rules! numbers {
     };
 }
 
-numbers!(u8 u16 u32 i32);
+numbers!(u8 u16 u32 u64 i32);
 
 /// At most 255 units of 16 bits, with their number before them.
 #[derive(Clone, Debug, PartialEq)]

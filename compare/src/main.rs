@@ -1,11 +1,15 @@
 //! Compares the proved drawing core with the original: the commands.
 
 mod argument;
+mod calls;
+mod counts;
 mod crc;
 mod overflow;
 mod primitives;
 mod program;
+mod records;
 mod rng;
+mod table;
 
 use std::io::{self, Read, Write};
 use std::process::ExitCode;
@@ -17,7 +21,17 @@ usage:
   compare answers                   print the original's answers to the script on standard input
   compare sample SCRIPT ANSWERS     write the fixed sample and the original's answers to files
   compare run PROGRAM COUNT SEED    compare COUNT random cases with a program that reads scripts
-  compare drawing TEXT              write the script of a drawing to standard output";
+  compare drawing TEXT              write the script of a drawing to standard output
+  compare call-script SEED          write a random call script to standard output
+  compare call-answers              print the original's lines for the call script on standard input
+  compare sample-calls STDIN STDOUT write the fixed call script and the original's lines to files
+  compare calls PROGRAM COUNT SEED  compare COUNT random call scripts with a program
+  compare handles PROGRAM           compare the call script that goes past the stock handles
+  compare records STDIN STDOUT COUNT SEED
+                                    write records, COUNT of them random, and their lines to files
+  compare record-answers            print the lines for the records on standard input
+  compare records-run PROGRAM COUNT SEED
+                                    compare COUNT random records with a program";
 
 fn main() -> ExitCode {
     let arguments: Vec<String> = env::args().skip(1).collect();
@@ -34,6 +48,52 @@ fn main() -> ExitCode {
 
 /// False if answers differ; an error if there was nothing to compare.
 fn command(arguments: &[&str]) -> Result<bool, String> {
+    match arguments {
+        ["call-script" | "call-answers" | "sample-calls" | "calls" | "handles", ..] => {
+            calls_command(arguments)
+        }
+        ["records" | "record-answers" | "records-run", ..] => records_command(arguments),
+        _ => primitives_command(arguments),
+    }
+}
+
+fn calls_command(arguments: &[&str]) -> Result<bool, String> {
+    match arguments {
+        ["call-script", seed] => print(&calls::script(number(seed)?))?,
+        ["call-answers"] => print(calls::answers(&input()?).as_bytes())?,
+        ["sample-calls", script, lines] => {
+            let (sample, text, tally) = calls::sample();
+            write(script, &sample)?;
+            write(lines, text.as_bytes())?;
+            eprintln!("{tally}");
+        }
+        ["calls", program, count, seed] => {
+            return calls::run(program, number(count)?, number(seed)?);
+        }
+        ["handles", program] => return calls::run_handles(program),
+        _ => return Err(USAGE.into()),
+    }
+    Ok(true)
+}
+
+fn records_command(arguments: &[&str]) -> Result<bool, String> {
+    match arguments {
+        ["records", stream, lines, count, seed] => {
+            let (records, text, tally) = records::records(number(count)?, number(seed)?)?;
+            write(stream, &records)?;
+            write(lines, text.as_bytes())?;
+            eprintln!("{tally}");
+        }
+        ["record-answers"] => print(records::answers(&input()?).as_bytes())?,
+        ["records-run", program, count, seed] => {
+            return records::run(program, number(count)?, number(seed)?);
+        }
+        _ => return Err(USAGE.into()),
+    }
+    Ok(true)
+}
+
+fn primitives_command(arguments: &[&str]) -> Result<bool, String> {
     match arguments {
         ["cases", seed, count] => {
             let (script, tally) = primitives::cases(number(seed)?, number(count)?);

@@ -1,9 +1,11 @@
 //! Running the proved program, and telling how far a long comparison has come.
 
+use std::borrow::Cow;
 use std::io::{self, IsTerminal, Write};
 use std::process::{Command, Output, Stdio};
 use std::thread;
 use std::time::{Duration, Instant};
+use std::{env, fs};
 
 /// Runs the program on the script.
 pub fn run(program: &str, script: &[u8]) -> io::Result<Output> {
@@ -17,26 +19,129 @@ pub fn run(program: &str, script: &[u8]) -> io::Result<Output> {
     })
 }
 
+/// The first line that is not the answer; the number of answers if only the end
+/// of the output is wrong.
+pub fn first_difference(answers: &[String], printed: &[u8]) -> Option<usize> {
+    let mut lines = printed.split(|&byte| byte == b'\n');
+    let differs = |answer: &String| lines.next() != Some(answer.as_bytes());
+    let at = answers.iter().position(differs);
+    at.or_else(|| (!lines.eq([b""])).then_some(answers.len()))
+}
+
+/// A line of what was printed, for people.
+pub fn line_at(printed: &[u8], at: usize) -> Cow<'_, str> {
+    let line = printed.split(|&byte| byte == b'\n').nth(at);
+    let line = line.filter(|line| !line.is_empty());
+    line.map_or("nothing".into(), String::from_utf8_lossy)
+}
+
+/// Compares what the program prints for a script with the lines that are due,
+/// and shows the first that differs. A script that it fails on is kept.
+pub fn compare(
+    program: &str,
+    script: &[u8],
+    lines: &[String],
+    shown: impl Fn(usize) -> String,
+    name: &str,
+) -> Result<bool, String> {
+    let output = run(program, script).map_err(|error| format!("{program}: {error}"))?;
+    if let Some(at) = first_difference(lines, &output.stdout) {
+        println!("{}", difference(lines, &output.stdout, at, shown));
+        println!("ended     {}", output.status);
+        println!("script    {}", kept(script, name)?);
+        return Ok(false);
+    }
+    if !output.status.success() {
+        return Err(format!("{program} on {}: {}", kept(script, name)?, output.status));
+    }
+    Ok(true)
+}
+
+/// The line that differs, with what it is about.
+fn difference(
+    lines: &[String],
+    printed: &[u8],
+    at: usize,
+    shown: impl Fn(usize) -> String,
+) -> String {
+    let line = line_at(printed, at);
+    let Some(due) = lines.get(at) else {
+        return format!("all {at} lines are equal, the output does not end after them\n{line}");
+    };
+    let (number, shown) = (at + 1, shown(at));
+    format!("lines differ at line {number}: {shown}\nexpected  {due}\nprogram   {line}")
+}
+
+/// Writes the script to the folder for temporary files, as it is and in
+/// hexadecimal, and says where.
+fn kept(script: &[u8], name: &str) -> Result<String, String> {
+    let path = env::temp_dir().join(format!("compare-{name}.script"));
+    let text = path.with_extension("hex");
+    let written = fs::write(&path, script);
+    let written = written.and_then(|()| fs::write(&text, hexadecimal(script) + "\n"));
+    written.map_err(|error| format!("{}: {error}", path.display()))?;
+    Ok(format!("{} and {}", path.display(), text.display()))
+}
+
+pub fn hexadecimal(bytes: &[u8]) -> String {
+    bytes.iter().map(|byte| format!("{byte:02x}")).collect()
+}
+
 /// A progress line on standard error: kept up to date on a terminal, else one
 /// line about every five seconds.
 pub struct Progress {
     total: u64,
+    what: &'static str,
     shown: Instant,
 }
 
 impl Progress {
-    pub fn new(total: u64) -> Self {
+    pub fn new(total: u64, what: &'static str) -> Self {
         let shown = Instant::now();
-        Self { total, shown }
+        Self { total, what, shown }
     }
 
     pub fn show(&mut self, done: u64) {
+        let Self { total, what, .. } = self;
         if io::stderr().is_terminal() {
             // What is printed next goes over it.
-            eprint!("{done} of {} cases\r", self.total);
+            eprint!("{done} of {total} {what}\r");
         } else if self.shown.elapsed() >= Duration::from_secs(5) {
+            eprintln!("{done} of {total} {what}");
             self.shown = Instant::now();
-            eprintln!("{done} of {} cases", self.total);
         }
+    }
+}
+
+#[cfg(test)]
+mod tests {
+    use super::*;
+
+    #[test]
+    fn differences_are_found() {
+        let answers = ["01 c618".to_string(), "02 848284".to_string()];
+        let at = |printed: &str| first_difference(&answers, printed.as_bytes());
+        assert_eq!(at("01 c618\n02 848284\n"), None);
+        assert_eq!(at("01 c618\n02 848285\n"), Some(1));
+        assert_eq!(at("01 c618\n"), Some(1));
+        assert_eq!(at(""), Some(0));
+        assert_eq!(at("01 c618\n02 848284"), Some(2));
+        assert_eq!(at("01 c618\n02 848284\n\n"), Some(2));
+    }
+
+    #[test]
+    fn a_difference_is_shown() {
+        let lines = ["open 0".to_string(), "03 0 dead1000".to_string()];
+        let shown = |at| format!("call {at}");
+        let at = |printed: &str| {
+            let at = first_difference(&lines, printed.as_bytes()).expect("they differ");
+            difference(&lines, printed.as_bytes(), at, shown)
+        };
+        assert_eq!(
+            at("open 0\n03 5 00000000\n"),
+            "lines differ at line 2: call 1\nexpected  03 0 dead1000\nprogram   03 5 00000000"
+        );
+        assert!(at("open 0\n").ends_with("\nprogram   nothing"));
+        assert!(at("open 0\n03 0 dead1000\ncrc\n").starts_with("all 2 lines are equal, "));
     }
 }

@@ -33,4 +33,16 @@ impl Rng {
     pub fn pick<T: Copy>(&mut self, from: &[T]) -> T {
         from[self.below(from.len() as u64) as usize]
     }
+
+    /// One of these, each as often as its share says.
+    pub fn weighted<T: Copy>(&mut self, from: &[(T, u64)]) -> T {
+        let mut at = self.below(from.iter().map(|one| one.1).sum());
+        for &(one, share) in from {
+            if at < share {
+                return one;
+            }
+            at -= share;
+        }
+        unreachable!("the shares add up")
+    }
 }

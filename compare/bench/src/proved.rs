@@ -17,6 +17,7 @@ pub struct Advance {
 }
 
 #[rustfmt::skip]
+#[link(name = "surface_ffi", kind = "static")]
 extern "C" {
     fn ravinefork_fill_rect(pixels: *mut u8, len: usize, width: u32, height: u32, x: i32, y: i32, w: i32, h: i32, color: u16) -> Drawn;
     fn ravinefork_fill_rect_rop(pixels: *mut u8, len: usize, width: u32, height: u32, x: i32, y: i32, w: i32, h: i32, pat: u16, rop: u32) -> Drawn;

@@ -1,8 +1,7 @@
 //! The cases of docs/primitive-cases.md, as values and as bytes.
 
-use std::fmt;
-
-use crate::argument::{Argument, Units};
+use crate::argument::Units;
+use crate::table::table;
 
 /// A script's first bytes; one byte for the mode follows.
 pub const MAGIC: &[u8; 4] = b"PRM2";
@@ -20,84 +19,37 @@ pub const MAX_SOURCE: u16 = 8192;
 /// The units of the longest text, some more than an operation takes.
 pub const MAX_COUNT: u32 = 65_600;
 
-/// Defines the cases from the document's table: byte, name, arguments.
-macro_rules! cases {
-    ($($byte:literal $name:literal $case:ident { $($argument:ident: $kind:ty),* })*) => {
-        /// One case with its arguments.
-        #[derive(Clone, Debug, PartialEq)]
-        pub enum Case {
-            $($case { $($argument: $kind),* }),*
+table! {
+    /// One case with its arguments.
+    Case {
+        0x01 "pack" Pack { colorref: u32 }
+        0x02 "widen" Widen { word: u16 }
+        0x03 "RGB555 to RGB565" From555 { word: u16 }
+        0x04 "RGB565 to RGB555" To555 { word: u16 }
+        0x05 "raster operation" Raster { code: u32, p: u16, s: u16, d: u16 }
+        0x06 "glyph" Glyph { index: u8 }
+        0x07 "sweep" Sweep { block: u8 }
+        0x10 "surface" Surface { width: u16, height: u16, seed: u32 }
+        0x11 "pattern fill" PatternFill { x: i32, y: i32, w: i32, h: i32, pattern: u16, code: u32 }
+        0x12 "blit" Blit {
+            dx: i32, dy: i32, sx: i32, sy: i32, w: i32, h: i32,
+            src_w: u32, src_h: u32, src_len: u16, seed: u32,
+            code: u32, pattern: u16
         }
-
-        /// The bytes of the cases and their names.
-        pub const KINDS: &[(u8, &str)] = &[$(($byte, $name)),*];
-
-        impl Case {
-            pub fn byte(&self) -> u8 {
-                match self {
-                    $(Case::$case { .. } => $byte),*
-                }
-            }
-
-            /// Adds the case to a script.
-            pub fn write(&self, script: &mut Vec<u8>) {
-                self.byte().write(script);
-                match self {
-                    $(Case::$case { $($argument),* } => { $($argument.write(script);)* })*
-                }
-            }
-
-            /// Takes a case off the front of a script, whatever its arguments.
-            fn read_any(script: &mut &[u8]) -> Option<Case> {
-                Some(match u8::read(script)? {
-                    $($byte => Case::$case { $($argument: Argument::read(script)?),* },)*
-                    _ => return None,
-                })
-            }
+        0x13 "blit within" BlitWithin {
+            dx: i32, dy: i32, sx: i32, sy: i32, w: i32, h: i32,
+            code: u32, pattern: u16
         }
-
-        impl fmt::Display for Case {
-            fn fmt(&self, f: &mut fmt::Formatter<'_>) -> fmt::Result {
-                match self {
-                    $(Case::$case { $($argument),* } => {
-                        f.write_str($name)?;
-                        $(write!(f, ", {} {}", stringify!($argument), $argument.shown())?;)*
-                    })*
-                }
-                Ok(())
-            }
+        0x14 "character" Character { x: i32, y: i32, character: u32, color: u16 }
+        0x15 "fill" Fill { x: i32, y: i32, w: i32, h: i32, color: u16 }
+        0x16 "outline" Outline { x: i32, y: i32, w: i32, h: i32, color: u16 }
+        0x17 "text" Text { x: i32, y: i32, color: u16, count: u32, stop: u32, units: Units }
+        0x18 "lend" Lend { width: u32, height: u32, len: u32 }
+        0x19 "blit between" BlitBetween {
+            order: u8, width: u16, height: u16, src_w: u16, src_h: u16,
+            dx: i32, dy: i32, sx: i32, sy: i32, w: i32, h: i32,
+            code: u32, pattern: u16
         }
-    };
-}
-
-cases! {
-    0x01 "pack" Pack { colorref: u32 }
-    0x02 "widen" Widen { word: u16 }
-    0x03 "RGB555 to RGB565" From555 { word: u16 }
-    0x04 "RGB565 to RGB555" To555 { word: u16 }
-    0x05 "raster operation" Raster { code: u32, p: u16, s: u16, d: u16 }
-    0x06 "glyph" Glyph { index: u8 }
-    0x07 "sweep" Sweep { block: u8 }
-    0x10 "surface" Surface { width: u16, height: u16, seed: u32 }
-    0x11 "pattern fill" PatternFill { x: i32, y: i32, w: i32, h: i32, pattern: u16, code: u32 }
-    0x12 "blit" Blit {
-        dx: i32, dy: i32, sx: i32, sy: i32, w: i32, h: i32,
-        src_w: u32, src_h: u32, src_len: u16, seed: u32,
-        code: u32, pattern: u16
-    }
-    0x13 "blit within" BlitWithin {
-        dx: i32, dy: i32, sx: i32, sy: i32, w: i32, h: i32,
-        code: u32, pattern: u16
-    }
-    0x14 "character" Character { x: i32, y: i32, character: u32, color: u16 }
-    0x15 "fill" Fill { x: i32, y: i32, w: i32, h: i32, color: u16 }
-    0x16 "outline" Outline { x: i32, y: i32, w: i32, h: i32, color: u16 }
-    0x17 "text" Text { x: i32, y: i32, color: u16, count: u32, stop: u32, units: Units }
-    0x18 "lend" Lend { width: u32, height: u32, len: u32 }
-    0x19 "blit between" BlitBetween {
-        order: u8, width: u16, height: u16, src_w: u16, src_h: u16,
-        dx: i32, dy: i32, sx: i32, sy: i32, w: i32, h: i32,
-        code: u32, pattern: u16
     }
 }
 

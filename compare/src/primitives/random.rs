@@ -71,7 +71,7 @@ pub fn add(script: &mut Script, seed: u64, count: u64, mix: Mix, tally: &mut Tal
 
 fn case(rng: &mut Rng, mix: Mix, surface: Lent, lent: Lent) -> Case {
     let on = on(lent);
-    match kind(rng, mix) {
+    match rng.weighted(mix) {
         0x01 => Case::Pack { colorref: colorref(rng) },
         0x02 => Case::Widen { word: word(rng) },
         0x03 => Case::From555 { word: word(rng) },
@@ -97,17 +97,6 @@ fn case(rng: &mut Rng, mix: Mix, surface: Lent, lent: Lent) -> Case {
 fn on(lent: Lent) -> Sides {
     let side = |n: u32| n.clamp(1, MAX_SIDE).into();
     (side(lent.width), side(lent.height))
-}
-
-fn kind(rng: &mut Rng, mix: Mix) -> u8 {
-    let mut at = rng.below(mix.iter().map(|kind| kind.1).sum());
-    for &(byte, share) in mix {
-        if at < share {
-            return byte;
-        }
-        at -= share;
-    }
-    unreachable!("the shares add up")
 }
 
 /// Any number of 32 bits, half of the time without the top byte.

@@ -3,7 +3,7 @@
 use super::random;
 use super::script::Script;
 use super::tally::Tally;
-use crate::program::{self, Progress};
+use crate::program::{self, first_difference, hexadecimal, line_at, Progress};
 
 /// Cases in one script.
 const BATCH: u64 = 2000;
@@ -12,7 +12,7 @@ const BATCH: u64 = 2000;
 /// all answers are equal; else the first difference has been printed.
 pub fn run(program: &str, count: u64, first: u64) -> Result<bool, String> {
     let mut tally = Tally::default();
-    let mut progress = Progress::new(count);
+    let mut progress = Progress::new(count, "cases");
     let mut seed = first;
     let mut done = 0;
     while done < count {
@@ -38,26 +38,15 @@ pub fn run(program: &str, count: u64, first: u64) -> Result<bool, String> {
     Ok(true)
 }
 
-/// The first line that is not the answer; the number of answers if only the end
-/// of the output is wrong.
-fn first_difference(answers: &[String], printed: &[u8]) -> Option<usize> {
-    let mut lines = printed.split(|&byte| byte == b'\n');
-    let differs = |answer: &String| lines.next() != Some(answer.as_bytes());
-    let at = answers.iter().position(differs);
-    at.or_else(|| (!lines.eq([b""])).then_some(answers.len()))
-}
-
 /// The case, decoded and as bytes, with both answers.
 fn report(script: &Script, printed: &[u8], at: usize) -> String {
-    let line = printed.split(|&byte| byte == b'\n').nth(at);
-    let line = line.filter(|line| !line.is_empty());
-    let line = line.map_or("nothing".into(), String::from_utf8_lossy);
+    let line = line_at(printed, at);
     let Some(case) = script.cases.get(at) else {
         return format!("all {at} answers are equal, the output does not end after them\n{line}");
     };
     let mut bytes = Vec::new();
     case.write(&mut bytes);
-    let bytes: String = bytes.iter().map(|byte| format!("{byte:02x}")).collect();
+    let bytes = hexadecimal(&bytes);
     let (number, answer) = (at + 1, &script.answers[at]);
     format!(
         "answers differ at case {number}: {case}\n\
@@ -65,21 +54,4 @@ fn report(script: &Script, printed: &[u8], at: usize) -> String {
          original  {answer}\n\
          program   {line}"
     )
-}
-
-#[cfg(test)]
-mod tests {
-    use super::first_difference;
-
-    #[test]
-    fn differences_are_found() {
-        let answers = ["01 c618".to_string(), "02 848284".to_string()];
-        let at = |printed: &str| first_difference(&answers, printed.as_bytes());
-        assert_eq!(at("01 c618\n02 848284\n"), None);
-        assert_eq!(at("01 c618\n02 848285\n"), Some(1));
-        assert_eq!(at("01 c618\n"), Some(1));
-        assert_eq!(at(""), Some(0));
-        assert_eq!(at("01 c618\n02 848284"), Some(2));
-        assert_eq!(at("01 c618\n02 848284\n\n"), Some(2));
-    }
 }

@@ -6,6 +6,7 @@ use super::case::{Case, KINDS};
 use super::clip::{boxed, cuts, moved, skipped, CUTS, MOVES};
 use super::lent::Lent;
 use super::original::Outcome;
+use crate::counts::listed;
 
 /// The numbers of refusals.
 const REFUSALS: [u8; 3] = [6, 8, 10];
@@ -127,10 +128,4 @@ impl fmt::Display for Tally {
         writeln!(f, "overlapping blits within the surface: {}", listed(&MOVES, &self.moves))?;
         write!(f, "dropped, since the original's sums overflow: {}", self.dropped)
     }
-}
-
-/// Names, each with its count.
-fn listed(names: &[&str], counts: &[u64]) -> String {
-    let listed: Vec<_> = names.iter().zip(counts).map(|(at, n)| format!("{at} {n}")).collect();
-    listed.join(", ")
 }

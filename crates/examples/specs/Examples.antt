@@ -2,8 +2,10 @@
 use mathlib.Core.Bool.{true, false}
 use mathlib.Core.List.{[], _∷_}
 use mathlib.Core.Path.{_≡_, refl}
+use Prim.Native.Nat.{ℕ}
 use lib.IntN.{pos, negsuc}
 use lib.ListN.{replicate}
+use Rattle.laws.specs.Sum.{sumBelow}
 use Rattle.words.specs.Words.{written, word, painted}
 use Rattle.color.specs.Color.{packed, wideRed, wideGreen, wideBlue, from555}
 use Rattle.rop3.specs.Rop3.{tableOf, applied, usesSrc}
@@ -15,6 +17,16 @@ use Rattle.fill.specs.Fill.{filled, fillMarks}
 use Rattle.outline.specs.Outline.{outlined, outlineMarks}
 use Rattle.blit.specs.Blit.{blitOf, blitFrom, blitWithin}
 use Rattle.text.specs.Ink.{charInk}
+use Rattle.gdi.specs.declared.GdiState.{GdiState}
+use Rattle.gdi.specs.declared.GdiObject.{GdiObject}
+use Rattle.gdi.specs.declared.GdiObject.the-variants.{Bitmap}
+use Rattle.gdi.specs.Record.{fresh, withObjects}
+use Rattle.gdi.specs.Stock.{isStock}
+use Rattle.gdi.specs.Lookup.{objectAt}
+use Rattle.handles.specs.Handles.{free, firstFree, newHandle, added}
+use Rattle.plan.specs.declared.Answer.the-variants.{Handle}
+use Rattle.plan.specs.Plan.{refuse}
+use Rattle.plan.specs.Create.{createOf, createBitmap}
 
 -- COLORREF 0x00C0C0C0 packs to 0xC618, 0xFF000000 to 0
 pub light-gray : packed 0x00C0C0C0 ≡ 0xC618
@@ -96,3 +108,39 @@ letter-at-the-edge = refl
 pub row-moved-onto-itself : blitWithin (blitOf 3 1 (pos 1) (pos 0) (pos 0) (pos 0) (pos 2) (pos 1) 3 1) 0 0 0xCC 0 (0xA1 ∷ 0xA0 ∷ 0xB1 ∷ 0xB0 ∷ 0xC1 ∷ 0xC0 ∷ []) ≡ 0xA1 ∷ 0xA0 ∷ 0xA1 ∷ 0xA0 ∷ 0xB1 ∷ 0xB0 ∷ []
 unfolding blitWithin painted written word applied
 row-moved-onto-itself = refl
+
+-- a fresh bench: a panel of 1 by 1, a store of 12 bytes
+abbrev bench : GdiState
+bench = fresh 2 12 1 1
+
+-- after 0xDEAD_5700 comes 0xDEAD_570A
+pub last-before-stock : newHandle (withObjects bench 0xDEAD_5700 0 (bench .objects)) ≡ 0xDEAD_5700
+unfolding firstFree free isStock
+last-before-stock = refl
+
+pub stock-stepped-over : (o : GdiObject) → newHandle (added (withObjects bench 0xDEAD_5700 0 (bench .objects)) o) ≡ 0xDEAD_570A
+unfolding added firstFree free isStock
+stock-stepped-over o = refl
+
+-- fresh bench, store of 12 bytes: bitmap 0 by 5 fits as 1 by 5
+pub bitmap-fits : createBitmap bench 0 5 .outcome .answer ≡ Handle 0xDEAD_1000
+unfolding createBitmap createOf sumBelow firstFree free isStock
+bitmap-fits = refl
+
+pub bitmap-widened : objectAt (createBitmap bench 0 5 .outcome .state) 0 ≡ Bitmap (record { width = 1; height = 5; «host_dirty» = false })
+unfolding createBitmap createOf sumBelow added firstFree free isStock
+bitmap-widened = refl
+
+-- 1 by 6 is 7
+pub bitmap-too-long : createBitmap bench 1 6 ≡ refuse 7 bench
+unfolding createBitmap createOf sumBelow
+bitmap-too-long = refl
+
+-- side 4,097 is 6
+pub bitmap-too-wide : (h : ℕ) → createBitmap bench 4097 h ≡ refuse 6 bench
+unfolding createBitmap
+bitmap-too-wide h = refl
+
+pub bitmap-too-high : createBitmap bench 1 4097 ≡ refuse 6 bench
+unfolding createBitmap
+bitmap-too-high = refl

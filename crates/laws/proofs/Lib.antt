@@ -2,3 +2,4 @@ pub mod Test
 pub mod Interval
 pub mod Integer
 pub mod Machine
+pub mod Sum

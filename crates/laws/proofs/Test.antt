@@ -75,6 +75,33 @@ any-end k (suc n) f le h = by (decLt n k) (λ few. any-end k n f few (λ j p q. 
     by (yes l) less = let e : k ≡ suc n = omega arith in rw e
     by (no l) less = rw (any-suc n f, h n (omega arith) (omega arith)) (less (omega arith))
 
+and-swap : (a b c : Bool) → (a && (b && c)) ≡ (b && (a && c))
+and-swap true b c = refl
+and-swap false true c = refl
+and-swap false false c = refl
+
+pub all-suc : (k : ℕ) (f : ℕ → Bool) → allBelow (suc k) f ≡ (f k && allBelow k f)
+all-suc zero f = refl
+all-suc (suc k) f = ap (λ (t : Bool). f 0 && t) (all-suc k (λ n. f (suc n))) ∙ and-swap (f 0) (f (suc k)) (allBelow k (λ n. f (suc n)))
+
+pub all-more : (k : ℕ) (f : ℕ → Bool) → allBelow k f ≡ true → f k ≡ true → allBelow (k + 1) f ≡ true
+all-more k f a e = rw (add-one k, all-suc k f) (together e a)
+
+-- one that fails, below n
+pub all-fails : (k n : ℕ) (f : ℕ → Bool) → k < n → f k ≡ false → allBelow n f ≡ false
+all-fails k zero f lt e = absurd (not-suc-le-zero lt)
+all-fails zero (suc n) f lt e = not-left (allBelow n (λ m. f (suc m))) e
+all-fails (suc k) (suc n) f lt e = not-right (f 0) (all-fails k n (λ m. f (suc m)) (le-of-suc-le-suc lt) e)
+
+-- each below n
+pub all-of : (n : ℕ) (f : ℕ → Bool) → ((k : ℕ) → k < n → f k ≡ true) → allBelow n f ≡ true
+all-of zero f h = refl
+all-of (suc n) f h = rw (all-suc n f, h n (omega arith)) (all-of n f (λ k lt. h k (omega arith)))
+
+pub all-same : (n : ℕ) (f g : ℕ → Bool) → ((i : ℕ) → i < n → f i ≡ g i) → allBelow n f ≡ allBelow n g
+all-same zero f g h = refl
+all-same (suc n) f g h = rw (all-suc n f, all-suc n g, h n (omega arith), all-same n f g (λ i lt. h i (omega arith)))
+
 -- two tests that follow from each other are equal
 pub same-test : (t u : Bool) → (t ≡ true → u ≡ true) → (u ≡ true → t ≡ true) → t ≡ u
 same-test true u f g = sym (f refl)

@@ -1,3 +1,4 @@
 pub mod Interval
 pub mod Integer
 pub mod Test
+pub mod Sum

@@ -28,12 +28,12 @@ pub record Sound (s : State) : Type 0 where
 -- a reply to a case at the front of c: the case lies in c, and the line has room for its end
 pub record Fitting (c : List ℕ) (r : Reply) : Type 0 where
   pub size : r .size ≤ length c
-  pub room : r .line .len < 40
+  pub room : r .line .len < 160
 
 -- the same of an answer
 pub record Answered (c : List ℕ) (a : Answer) : Type 0 where
   pub size : a .size ≤ length c
-  pub room : a .line .len < 40
+  pub room : a .line .len < 160
   pub state : Sound (a .state)
 
 -- two surfaces that fit the memory one after the other, and how many words they have

@@ -1,10 +1,10 @@
 // Cases 01 to 07: colours, raster operations on single words, glyphs.
 use crate::line;
-use crate::line::Line;
 use crate::line::Reply;
 use color::Colorref;
 use color::Rgb555;
 use color::Rgb565;
+use lines::Line;
 ghost use mathlib.Core.Path.{_≡_};
 ghost use Prim.Native.Nat.{_+_, _<_};
 ghost use lib.ListN.{length};

@@ -1,12 +1,12 @@
 -- Laws of a part of a memory that is lent and comes back. Assumes nothing.
 use mathlib.Core.Bool.{Bool, _&&_, cond}
 use mathlib.Core.List.{List, _++_}
-use mathlib.Core.Path.{_≡_, _∙_, ap}
+use mathlib.Core.Path.{_≡_, sym, _∙_, ap}
 use Prim.Native.Nat.{ℕ, _+_, _-_, _*_, _/_, _%_, _≤_, _<_}
 use native.Mathlib.Decide.{decLt}
 use native.Mathlib.Omega.{arith}
 use lib.ListN.{length, take, drop, getD, length-take, length-drop, length-append, List·getD-append}
-use lib.Seq.{getD-take, getD-drop, getD-append-add, length-take-le}
+use lib.Seq.{take-at, drop-at, getD-take, getD-drop, getD-append-add, ext-getD, length-take-le}
 use Rattle.laws.specs.Interval.{between}
 use Rattle.laws.proofs.Interval.{between-yes, between-no}
 use Rattle.words.specs.Parts.{part, withPart}
@@ -45,6 +45,23 @@ module _ (m xs : List ℕ) (p n : ℕ) (len : length xs ≡ n) (fits : p + n ≤
       ∙ getD-append-add xs (drop (p + n) m) (k - p - n) 0
       ∙ getD-drop (p + n) m (k - p - n) 0
       ∙ ap (λ (j : ℕ). getD m j 0) e3
+
+  -- the part comes back as it was put there, and one apart from it is kept
+  pub part-same : part (withPart m p n xs) p n ≡ xs
+  part-same = rw (drop-at (take p m) (xs ++ drop (p + n) m) p front) (take-at xs (drop (p + n) m) n len)
+
+  pub part-other : (q k : ℕ) → ((j : ℕ) → q ≤ j → j < q + k → p ≤ j → j < p + n → ⊥) → part (withPart m p n xs) q k ≡ part m q k
+  part-other q k apart =
+      ext-getD 0 (part (withPart m p n xs) q k) (part m q k) (simp (length-take, length-drop, length-with))
+      (λ i lt. let b : i < k = omega (arith, length-take k (drop q (withPart m p n xs))) in
+      getD-take k (drop q (withPart m p n xs)) i 0 b ∙ getD-drop q (withPart m p n xs) i 0
+      ∙ by (q + i) (apart (q + i) (omega arith) (omega arith)) (decLt (q + i) p) (decLt (q + i) (p + n))
+      ∙ sym (getD-take k (drop q m) i 0 b ∙ getD-drop q m i 0))
+    where
+      by : (j : ℕ) → (p ≤ j → j < p + n → ⊥) → Dec (j < p) → Dec (j < p + n) → getD (withPart m p n xs) j 0 ≡ getD m j 0
+      by j out (yes a) b = with-before j a
+      by j out (no a) (yes b) = absurd (out (omega arith) b)
+      by j out (no a) (no b) = with-behind j (omega arith)
 
 -- a part painted is the whole memory painted, at words that lie a further
 pub part-painted : (P : ℕ → Bool) (v : ℕ → ℕ) (m : List ℕ) (a n : ℕ) → 2 * a + 2 * n ≤ length m → withPart m (2 * a) (2 * n) (painted P v (part m (2 * a) (2 * n))) ≡ painted (λ i. between a (a + n) i && P (i - a)) (λ i. v (i - a)) m

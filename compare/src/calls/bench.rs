@@ -1,0 +1,363 @@
+//! The bench: the original's objects and panel, behind refusals and in lent
+//! memories, which the original does not have.
+
+use std::fmt;
+use std::mem::replace;
+
+use pocket_kernel::framebuffer::Framebuffer;
+use pocket_kernel::gdi::{Dc, GdiObject, GdiState, GDI_SCREEN_DC, STOCK_DEFAULT_BITMAP};
+
+use super::call::Call;
+use super::line;
+use super::original::Original;
+use crate::crc::crc32;
+
+pub const MAX_SIDE: u32 = 4096;
+pub const MAX_MEMORY: u64 = 33_554_432;
+pub const MAX_OBJECTS: usize = 256;
+
+pub struct Bench {
+    original: Original,
+    panel: Framebuffer,
+    /// The stock bitmap, then the created objects in order of creation: the
+    /// order of pixels in the store. Empty after a refused open.
+    order: Vec<u32>,
+    /// The memories as lent: the original has the pixels, these the other bytes.
+    panel_memory: Vec<u8>,
+    store: Vec<u8>,
+    /// The bitmaps that deletions and removals have moved down.
+    pub moved: u64,
+}
+
+/// What a call came to; shown as it is printed.
+pub struct Outcome {
+    /// The number of the refusal, 0 if there is none.
+    pub refusal: u8,
+    pub answer: Answer,
+}
+
+pub enum Answer {
+    /// A handle, COLORREF or alignment.
+    Number(u32),
+    Flag(bool),
+    Object(Option<GdiObject>),
+}
+
+impl Bench {
+    /// The number with which open is refused, 0 if it is not: 6 a side, then 8 a
+    /// memory above the limit, then 7 one that is too short.
+    pub fn open_refusal(panel_len: u64, store_len: u64, width: u32, height: u32) -> u8 {
+        let side = |n| (1..=MAX_SIDE).contains(&n);
+        if !(side(width) && side(height)) {
+            6
+        } else if panel_len.max(store_len) > MAX_MEMORY {
+            8
+        } else if panel_len < bytes_of(width, height) || store_len < 2 {
+            7
+        } else {
+            0
+        }
+    }
+
+    /// Opens a bench on the lent memories, or says why not.
+    pub fn open(panel: Vec<u8>, store: Vec<u8>, width: u32, height: u32) -> (u8, Bench) {
+        let (panel_len, store_len) = (panel.len() as u64, store.len() as u64);
+        let refusal = Self::open_refusal(panel_len, store_len, width, height);
+        let (width, height) = if refusal == 0 { (width, height) } else { (0, 0) };
+        let bench = Bench {
+            original: Original::new(),
+            panel: Framebuffer::new(width, height),
+            order: if refusal == 0 { vec![STOCK_DEFAULT_BITMAP] } else { Vec::new() },
+            panel_memory: panel,
+            store,
+            moved: 0,
+        };
+        (refusal, bench)
+    }
+
+    pub fn gdi(&self) -> &GdiState {
+        &self.original.gdi
+    }
+
+    /// The handles of the created objects, in order of creation.
+    pub fn created(&self) -> &[u32] {
+        self.order.get(1..).unwrap_or_default()
+    }
+
+    /// The handle after the last one given.
+    pub fn next(&self) -> u32 {
+        self.original.next
+    }
+
+    /// The store's bytes that no bitmap has.
+    pub fn left(&self) -> usize {
+        self.store.len() - self.used()
+    }
+
+    pub fn perform(&mut self, call: &Call) -> Outcome {
+        match self.attempt(call) {
+            Ok(answer) => Outcome { refusal: 0, answer },
+            Err(refusal) => Outcome { refusal, answer: Answer::nothing(call) },
+        }
+    }
+
+    /// The answer, or the number of the refusal.
+    fn attempt(&mut self, call: &Call) -> Result<Answer, u8> {
+        Ok(match *call {
+            Call::CreateMemoryDc {}
+            | Call::CreateCompatibleBitmap { .. }
+            | Call::CreateSolidBrush { .. }
+            | Call::CreatePen { .. }
+            | Call::CreateFont { .. } => Answer::Number(self.create(call)?),
+            Call::Delete { handle } => Answer::Flag(self.taken(|gdi| gdi.delete(handle))),
+            Call::Remove { handle } => Answer::Object(self.taken(|gdi| gdi.remove(handle))),
+            Call::Select { dc, object } => {
+                Answer::Number(self.original.gdi.select_into(dc, object))
+            }
+            Call::SetTextColor { dc, color } => {
+                Answer::Number(replace(&mut self.dc_mut(dc)?.text_color, color))
+            }
+            Call::SetTextAlign { dc, align } => {
+                Answer::Number(replace(&mut self.dc_mut(dc)?.text_align, align))
+            }
+            Call::SetBkColor { dc, color } => {
+                Answer::Number(replace(&mut self.dc_mut(dc)?.bk_color, color))
+            }
+            Call::SetBkMode { dc, transparent } => {
+                Answer::Flag(replace(&mut self.dc_mut(dc)?.bk_transparent, transparent == 1))
+            }
+        })
+    }
+
+    /// Creates an object, unless refused: 6 a side, then 5 too many objects, then
+    /// 7 no room in the store.
+    fn create(&mut self, call: &Call) -> Result<u32, u8> {
+        let mut bytes = 0;
+        if let Call::CreateCompatibleBitmap { width, height } = *call {
+            if width.max(height) > MAX_SIDE {
+                return Err(6);
+            }
+            bytes = bytes_of(width.max(1), height.max(1));
+        }
+        if self.created().len() >= MAX_OBJECTS {
+            return Err(5);
+        }
+        if bytes > self.left() as u64 {
+            return Err(7);
+        }
+        let handle = self.original.create(call);
+        self.order.push(handle);
+        Ok(handle)
+    }
+
+    /// Has the original take an object out of its table. The pixels behind it
+    /// move down, and what they leave at the end turns black.
+    fn taken<T>(&mut self, take: impl FnOnce(&mut GdiState) -> T) -> T {
+        let used = self.used();
+        let answer = take(&mut self.original.gdi);
+        if let Some(at) = self.order.iter().position(|&handle| self.gdi().get(handle).is_none()) {
+            self.order.remove(at);
+            let freed = self.used()..used;
+            if !freed.is_empty() {
+                let behind =
+                    self.order[at..].iter().filter_map(|&handle| self.gdi().bitmap(handle));
+                self.moved += behind.count() as u64;
+            }
+            self.store[freed].fill(0);
+        }
+        answer
+    }
+
+    fn dc_mut(&mut self, dc: u32) -> Result<&mut Dc, u8> {
+        self.original.gdi.dc_mut(dc).ok_or(1)
+    }
+
+    /// All pixels in the store, without a gap.
+    fn pixels(&self) -> impl Iterator<Item = &[u8]> {
+        let bitmaps = self.order.iter().filter_map(|&handle| self.gdi().bitmap(handle));
+        bitmaps.map(|bitmap| bitmap.pixels.as_slice())
+    }
+
+    /// The bytes that all pixels in the store have.
+    fn used(&self) -> usize {
+        self.pixels().map(<[u8]>::len).sum()
+    }
+
+    /// The panel memory, whole.
+    fn panel_bytes(&self) -> Vec<u8> {
+        let pixels = self.panel.pixels.as_slice();
+        [pixels, &self.panel_memory[pixels.len()..]].concat()
+    }
+
+    /// The store, whole.
+    fn store_bytes(&self) -> Vec<u8> {
+        let mut bytes: Vec<u8> = self.pixels().flatten().copied().collect();
+        bytes.extend_from_slice(&self.store[bytes.len()..]);
+        bytes
+    }
+
+    /// The state lines: panel, screen DC, created objects, CRCs.
+    pub fn state(self) -> Vec<String> {
+        let gdi = self.gdi();
+        let screen = gdi.dc(GDI_SCREEN_DC).expect("the screen DC is stock");
+        let stock = gdi.bitmap(STOCK_DEFAULT_BITMAP).expect("the bitmap is stock");
+        let mut lines = vec![format!("dc {GDI_SCREEN_DC:08x} {}", line::dc_fields(screen))];
+        for handle in self.created() {
+            let object = gdi.get(*handle).expect("a created object is live");
+            lines.push(format!("object {handle:08x} {}", line::object(object)));
+        }
+        let (panel, store) = (crc32(&self.panel_bytes()), crc32(&self.store_bytes()));
+        lines.push(format!("crc {panel:08x} {store:08x}"));
+        let Framebuffer { width, height, frame_counter, .. } = self.panel;
+        let (dirty, count) = (u8::from(stock.host_dirty), self.created().len());
+        let next = self.original.next_handle();
+        let first = format!(
+            "panel {width} {height} frames {frame_counter} next {next:08x} stock {dirty} \
+             count {count}"
+        );
+        lines.insert(0, first);
+        lines
+    }
+}
+
+impl fmt::Display for Outcome {
+    fn fmt(&self, f: &mut fmt::Formatter<'_>) -> fmt::Result {
+        write!(f, "{}", self.refusal)?;
+        match &self.answer {
+            Answer::Number(number) => write!(f, " {number:08x}"),
+            Answer::Flag(flag) => write!(f, " {}", u8::from(*flag)),
+            Answer::Object(Some(object)) => write!(f, " {}", line::object(object)),
+            Answer::Object(None) => f.write_str(" none"),
+        }
+    }
+}
+
+impl Answer {
+    /// The answer of a call that is refused.
+    fn nothing(call: &Call) -> Self {
+        match call {
+            Call::Delete { .. } | Call::SetBkMode { .. } => Answer::Flag(false),
+            Call::Remove { .. } => Answer::Object(None),
+            _ => Answer::Number(0),
+        }
+    }
+}
+
+/// The bytes of a surface of these sides.
+pub fn bytes_of(width: u32, height: u32) -> u64 {
+    2 * u64::from(width) * u64::from(height)
+}
+
+#[cfg(test)]
+mod tests {
+    use super::*;
+
+    /// A bench of 1 by 1 whose store has this length, filled with 0xA5.
+    fn bench(store_len: usize) -> Bench {
+        let (refusal, bench) = Bench::open(vec![0xA5; 3], vec![0xA5; store_len], 1, 1);
+        assert_eq!(refusal, 0);
+        bench
+    }
+
+    /// Performs the call: its refusal and its answer, as printed.
+    fn perform(bench: &mut Bench, call: Call) -> String {
+        bench.perform(&call).to_string()
+    }
+
+    fn bitmap(bench: &mut Bench, width: u32, height: u32) -> String {
+        perform(bench, Call::CreateCompatibleBitmap { width, height })
+    }
+
+    #[test]
+    fn open_asks_for_sides_limits_and_lengths() {
+        let refusal = Bench::open_refusal;
+        assert_eq!(refusal(2, 2, 1, 1), 0);
+        assert_eq!(refusal(MAX_MEMORY, MAX_MEMORY, 4096, 4096), 0);
+        for (width, height) in [(0, 1), (1, 0), (4097, 1), (1, 4097), (u32::MAX, u32::MAX)] {
+            assert_eq!(refusal(2, 2, width, height), 6);
+            assert_eq!(refusal(MAX_MEMORY + 1, 0, width, height), 6);
+        }
+        assert_eq!(refusal(MAX_MEMORY + 1, 0, 1, 1), 8);
+        assert_eq!(refusal(0, MAX_MEMORY + 1, 1, 1), 8);
+        for (panel_len, store_len) in [(11, 2), (12, 1), (0, 0)] {
+            assert_eq!(refusal(panel_len, store_len, 2, 3), 7);
+        }
+    }
+
+    #[test]
+    fn open_blackens_the_panel_and_the_stock_pixel() {
+        let (refusal, bench) = Bench::open(vec![0xA5; 13], vec![0xA5; 4], 2, 3);
+        assert_eq!(refusal, 0);
+        assert_eq!(bench.panel_bytes(), [[0; 12].as_slice(), &[0xA5]].concat());
+        assert_eq!(bench.store_bytes(), [0, 0, 0xA5, 0xA5]);
+        let (refusal, bench) = Bench::open(vec![0xA5; 13], vec![0xA5; 1], 2, 3);
+        assert_eq!(refusal, 7);
+        assert_eq!(bench.panel_bytes(), [0xA5; 13]);
+        assert_eq!(bench.store_bytes(), [0xA5]);
+        let panel = bench.state().swap_remove(0);
+        assert_eq!(panel, "panel 0 0 frames 0 next dead1000 stock 0 count 0");
+    }
+
+    #[test]
+    fn a_store_of_twelve_bytes() {
+        assert_eq!(bitmap(&mut bench(12), 0, 5), "0 dead1000");
+        assert_eq!(bitmap(&mut bench(12), 1, 6), "7 00000000");
+        assert_eq!(bitmap(&mut bench(12), 4097, 0), "6 00000000");
+        let mut bench = bench(12);
+        assert_eq!(bitmap(&mut bench, 1, 6), "7 00000000");
+        assert_eq!(bitmap(&mut bench, 0, 4), "0 dead1000");
+        assert_eq!(bitmap(&mut bench, 2, 1), "7 00000000");
+        assert_eq!(bitmap(&mut bench, 0, 0), "0 dead1001");
+        assert_eq!(perform(&mut bench, Call::Remove { handle: 0xDEAD_1000 }), "0 bitmap 1 4 0");
+    }
+
+    #[test]
+    fn refusals_of_creation_in_their_order() {
+        let mut bench = bench(12);
+        for _ in 0..MAX_OBJECTS {
+            assert!(perform(&mut bench, Call::CreateMemoryDc {}).starts_with("0 "));
+        }
+        assert_eq!(bitmap(&mut bench, 4097, 1), "6 00000000");
+        assert_eq!(bitmap(&mut bench, 4096, 4096), "5 00000000");
+        for call in [Call::CreateMemoryDc {}, Call::CreateFont { height: 1 }] {
+            assert_eq!(perform(&mut bench, call), "5 00000000");
+        }
+        assert_eq!(perform(&mut bench, Call::Delete { handle: 0xDEAD_1000 }), "0 1");
+        assert_eq!(bitmap(&mut bench, 4096, 4096), "7 00000000");
+        assert_eq!(bitmap(&mut bench, 1, 1), "0 dead1100");
+    }
+
+    #[test]
+    fn deletion_closes_the_gap() {
+        let mut bench = bench(14);
+        for side in [1, 2, 1] {
+            bitmap(&mut bench, side, 1);
+        }
+        for (handle, byte) in [(0xDEAD_1000, 1), (0xDEAD_1001, 2), (0xDEAD_1002, 3)] {
+            bench.original.gdi.bitmap_mut(handle).unwrap().pixels.fill(byte);
+        }
+        assert_eq!(bench.store_bytes(), [0, 0, 1, 1, 2, 2, 2, 2, 3, 3, 0xA5, 0xA5, 0xA5, 0xA5]);
+        assert_eq!(perform(&mut bench, Call::Delete { handle: 0xDEAD_1001 }), "0 1");
+        assert_eq!(bench.store_bytes(), [0, 0, 1, 1, 3, 3, 0, 0, 0, 0, 0xA5, 0xA5, 0xA5, 0xA5]);
+        assert_eq!((bench.moved, bench.left()), (1, 8));
+        bitmap(&mut bench, 4, 1);
+        assert_eq!(bench.store_bytes(), [0, 0, 1, 1, 3, 3, 0, 0, 0, 0, 0, 0, 0, 0]);
+        perform(&mut bench, Call::Remove { handle: 0xDEAD_1000 });
+        assert_eq!(bench.store_bytes(), [0, 0, 3, 3, 0, 0, 0, 0, 0, 0, 0, 0, 0, 0]);
+        assert_eq!(bench.moved, 3);
+    }
+
+    #[test]
+    fn settings_answer_the_old_value() {
+        let mut bench = bench(2);
+        let dc = GDI_SCREEN_DC;
+        let color = |dc, color| Call::SetTextColor { dc, color };
+        assert_eq!(perform(&mut bench, color(dc, 7)), "0 00000000");
+        assert_eq!(perform(&mut bench, color(dc, 8)), "0 00000007");
+        assert_eq!(perform(&mut bench, color(STOCK_DEFAULT_BITMAP, 8)), "1 00000000");
+        let mode = |dc, transparent| Call::SetBkMode { dc, transparent };
+        assert_eq!(perform(&mut bench, mode(dc, 1)), "0 0");
+        assert_eq!(perform(&mut bench, mode(dc, 0)), "0 1");
+        assert_eq!(perform(&mut bench, mode(0, 1)), "1 0");
+    }
+}

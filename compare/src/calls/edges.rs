@@ -1,0 +1,93 @@
+//! Short scripts at the edges of the format.
+
+use super::call::Call;
+use super::script::{Header, MOST_PANEL, MOST_STORE};
+
+/// A header whose memories are just long enough.
+const SMALL: Header = Header { panel_len: 8, store_len: 2, width: 2, height: 2, fill: 0xA5 };
+
+/// Headers, calls and opens that are just good, or just not.
+pub fn scripts() -> Vec<Vec<u8>> {
+    let mut scripts = vec![twelve_bytes()];
+    scripts.extend(headers().iter().map(Header::bytes));
+    let small = SMALL.bytes();
+    scripts.extend((0..small.len()).map(|len| small[..len].to_vec()));
+    scripts.extend((0..4).map(|at| [&small[..at], b"i", &small[at + 1..]].concat()));
+    // Each byte where a call should begin, and nothing behind it.
+    scripts.extend((0..=u8::MAX).map(|byte| [&small[..], &[0x01, byte]].concat()));
+    for call in longest() {
+        let bytes = call.bytes();
+        let cut = &bytes[..bytes.len() - 1];
+        scripts.extend([&bytes, cut].map(|bytes| [&small[..], bytes].concat()));
+    }
+    scripts
+}
+
+/// The specification's example: what fits a store of 12 bytes, and what does not.
+fn twelve_bytes() -> Vec<u8> {
+    let mut script = Header { store_len: 12, ..SMALL }.bytes();
+    for (width, height) in [(1, 6), (4097, 1), (0, 5), (0, 0)] {
+        Call::CreateCompatibleBitmap { width, height }.write(&mut script);
+    }
+    script
+}
+
+fn headers() -> Vec<Header> {
+    let mut headers = vec![
+        SMALL,
+        Header { panel_len: 7, ..SMALL },
+        Header { panel_len: 0, ..SMALL },
+        Header { store_len: 1, ..SMALL },
+        Header { store_len: 0, ..SMALL },
+        Header { panel_len: MOST_PANEL + 1, ..SMALL },
+        Header { store_len: MOST_STORE + 1, ..SMALL },
+        Header { panel_len: u32::MAX, width: 0, ..SMALL },
+        Header { panel_len: MOST_PANEL, store_len: MOST_STORE, width: 4096, height: 128, fill: 1 },
+        Header { panel_len: MOST_PANEL, store_len: MOST_STORE, width: 4096, height: 129, fill: 1 },
+    ];
+    for side in [0, 4097, 0x1_0000, 0x8000_0000, u32::MAX] {
+        headers.push(Header { width: side, ..SMALL });
+        headers.push(Header { height: side, ..SMALL });
+        headers.push(Header { width: side, height: side, panel_len: 0, store_len: 0, fill: 0 });
+    }
+    headers
+}
+
+/// Each call that has arguments; then modes that there are not.
+fn longest() -> Vec<Call> {
+    let (dc, color) = (0xDEAD_0DC0, 0x0102_0304);
+    let mut calls = vec![
+        Call::CreateCompatibleBitmap { width: 1, height: 1 },
+        Call::CreateSolidBrush { color },
+        Call::CreatePen { color, width: 1 },
+        Call::CreateFont { height: -1 },
+        Call::Delete { handle: dc },
+        Call::Remove { handle: dc },
+        Call::Select { dc, object: 0xDEAD_5702 },
+        Call::SetTextColor { dc, color },
+        Call::SetTextAlign { dc, align: 6 },
+        Call::SetBkColor { dc, color },
+        Call::SetBkMode { dc, transparent: 1 },
+    ];
+    let modes = [2, 0x100, 0x0100_0000, u32::MAX];
+    calls.extend(modes.map(|transparent| Call::SetBkMode { dc, transparent }));
+    calls
+}
+
+#[cfg(test)]
+mod tests {
+    use super::*;
+    use crate::calls::answers;
+
+    #[test]
+    fn every_beginning_and_end_occurs() {
+        let texts: Vec<String> = scripts().iter().map(|script| answers(script)).collect();
+        for line in ["open 0\n", "open 6\n", "open 7\n", "bad script\n", "too large\n"] {
+            assert!(texts.iter().any(|text| text.starts_with(line)), "{line}");
+        }
+        let bad = texts.iter().filter(|text| text.contains("\nbad call\n"));
+        assert_eq!(bad.count(), 255 + 11 + 2 * 4);
+        let twelve = "open 0\n02 7 00000000\n02 6 00000000\n02 0 dead1000\n02 7 00000000\npanel ";
+        assert!(texts[0].starts_with(twelve), "{}", texts[0]);
+    }
+}

@@ -1,0 +1,95 @@
+//! Random handles: of live objects, mostly of the kind that a call wants, of
+//! stock ones, and of none.
+
+use pocket_kernel::gdi::{self, GdiObject, GDI_HANDLE_BASE, GDI_SCREEN_DC};
+
+use super::bench::Bench;
+use crate::rng::Rng;
+
+pub const STOCK: [u32; 12] = [
+    GDI_SCREEN_DC,
+    gdi::STOCK_WHITE_BRUSH,
+    gdi::STOCK_LTGRAY_BRUSH,
+    gdi::STOCK_GRAY_BRUSH,
+    gdi::STOCK_BLACK_BRUSH,
+    gdi::STOCK_NULL_BRUSH,
+    gdi::STOCK_WHITE_PEN,
+    gdi::STOCK_BLACK_PEN,
+    gdi::STOCK_NULL_PEN,
+    gdi::STOCK_DKGRAY_BRUSH,
+    gdi::STOCK_SYSTEM_FONT,
+    gdi::STOCK_DEFAULT_BITMAP,
+];
+
+/// Mostly a created DC or the screen's.
+pub fn a_dc(rng: &mut Rng, bench: &Bench) -> u32 {
+    match rng.below(20) {
+        0 => live(rng, bench, |_| true),
+        1 => other(rng, bench),
+        2..=4 => GDI_SCREEN_DC,
+        _ => live(rng, bench, is_dc),
+    }
+}
+
+/// Mostly an object that a DC can hold.
+pub fn selectable(rng: &mut Rng, bench: &Bench) -> u32 {
+    match rng.below(20) {
+        0 => live(rng, bench, is_dc),
+        1 => other(rng, bench),
+        2..=5 => rng.pick(&STOCK),
+        6..=9 => live(rng, bench, |object| matches!(object, GdiObject::Bitmap(_))),
+        _ => live(rng, bench, |object| !is_dc(object)),
+    }
+}
+
+/// Mostly a created object.
+pub fn any_object(rng: &mut Rng, bench: &Bench) -> u32 {
+    match rng.below(20) {
+        0..=2 => other(rng, bench),
+        3 | 4 => rng.pick(&STOCK),
+        // The first and the last one.
+        5 => bench.created().first().copied().unwrap_or_default(),
+        6 => bench.created().last().copied().unwrap_or_default(),
+        7..=10 => live(rng, bench, |object| matches!(object, GdiObject::Bitmap(_))),
+        _ => live(rng, bench, |_| true),
+    }
+}
+
+fn is_dc(object: &GdiObject) -> bool {
+    matches!(object, GdiObject::Dc(_))
+}
+
+/// A created object of this kind; the screen DC if there is none.
+fn live(rng: &mut Rng, bench: &Bench, kind: fn(&GdiObject) -> bool) -> u32 {
+    let of_kind = |handle: &&u32| bench.gdi().get(**handle).is_some_and(kind);
+    let created: Vec<u32> = bench.created().iter().filter(of_kind).copied().collect();
+    if created.is_empty() {
+        GDI_SCREEN_DC
+    } else {
+        rng.pick(&created)
+    }
+}
+
+/// Mostly the handle of an object that is gone or not yet there.
+fn other(rng: &mut Rng, bench: &Bench) -> u32 {
+    let next = bench.next();
+    match rng.below(6) {
+        0 => rng.pick(&[0, 1, GDI_HANDLE_BASE - 1, u32::MAX, 0xDEAD_570A]),
+        1 => rng.next() as u32,
+        2 => next,
+        _ => rng.between(GDI_HANDLE_BASE.into(), next.into()) as u32,
+    }
+}
+
+#[cfg(test)]
+mod tests {
+    use super::*;
+
+    #[test]
+    fn these_are_the_stock_handles() {
+        let known = |handle| gdi::GdiState::new().get(handle).is_some();
+        assert!(STOCK.iter().all(|&handle| gdi::is_stock_handle(handle) && known(handle)));
+        let all = (0xDEAD_0000..=0xDEAD_FFFF).filter(|&handle| gdi::is_stock_handle(handle));
+        assert_eq!(all.count(), STOCK.len());
+    }
+}

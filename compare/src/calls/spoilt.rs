@@ -1,0 +1,113 @@
+//! Random scripts that are not as they should be: bad headers, refused opens,
+//! bad calls.
+
+use pocket_kernel::gdi::{GDI_SCREEN_DC, STOCK_WHITE_BRUSH};
+
+use super::call::{Call, KINDS};
+use super::script::{Header, HEADER, MOST_PANEL, MOST_STORE};
+use crate::rng::Rng;
+
+/// The script of these calls; at times something is wrong with it.
+pub fn spoil(rng: &mut Rng, header: Header, calls: &[Call]) -> Vec<u8> {
+    let header = match rng.below(32) {
+        0 => too_large(rng, header),
+        1..=3 => refused(rng, header),
+        _ => header,
+    };
+    let mut script = header.bytes();
+    calls.iter().for_each(|call| call.write(&mut script));
+    match rng.below(32) {
+        0 => script.truncate(rng.below(HEADER as u64) as usize),
+        1 => {
+            let at = rng.below(4) as usize;
+            script[at] ^= 1 << rng.below(8);
+        }
+        2..=6 => end(rng, &mut script),
+        _ => {}
+    }
+    script
+}
+
+/// A header that asks for more than is served, opened or not.
+fn too_large(rng: &mut Rng, mut header: Header) -> Header {
+    let more = rng.pick(&[0, 1, 0x0100_0000]);
+    match rng.below(4) {
+        0 => header.panel_len = MOST_PANEL + 1 + more,
+        1 => header.store_len = MOST_STORE + 1 + more,
+        2 => header.panel_len = u32::MAX,
+        _ => (header.store_len, header.width) = (u32::MAX, 0),
+    }
+    header
+}
+
+/// A header that is refused: for a side, a short memory, or both.
+fn refused(rng: &mut Rng, mut header: Header) -> Header {
+    let side = rng.pick(&[0, 4097, 0x1_0001, 0x8000_0000, u32::MAX]);
+    match rng.below(8) {
+        0 => header.width = side,
+        1 => header.height = side,
+        2 => (header.width, header.height) = (side, side),
+        3 => (header.width, header.store_len) = (side, 1),
+        4 => (header.width, header.height) = (4096, rng.pick(&[4096, 129])),
+        5 => header.store_len = rng.below(2) as u32,
+        6 => (header.panel_len, header.store_len) = (0, 0),
+        _ => header.panel_len = 2 * header.width * header.height - 1,
+    }
+    header
+}
+
+/// Ends the script with a bad call, and mostly with bytes that none may read.
+fn end(rng: &mut Rng, script: &mut Vec<u8>) {
+    match rng.below(3) {
+        0 => script.push(unknown(rng)),
+        1 => {
+            let transparent = rng.pick(&[2, 3, 0x100, 0x0001_0000, u32::MAX]);
+            Call::SetBkMode { dc: GDI_SCREEN_DC, transparent }.write(script);
+        }
+        _ => return cut_short(rng, script),
+    }
+    for _ in 0..rng.below(4) {
+        Call::CreateMemoryDc {}.write(script);
+    }
+}
+
+/// A byte that is no call's, often one of the lowest.
+fn unknown(rng: &mut Rng) -> u8 {
+    let unknown = |byte: &u8| KINDS.iter().all(|kind| kind.0 != *byte);
+    let unknown: Vec<u8> = (0..=u8::MAX).filter(unknown).collect();
+    let most = if rng.one_in(2) { 8 } else { unknown.len() };
+    rng.pick(&unknown[..most])
+}
+
+/// Adds a call without its last bytes.
+fn cut_short(rng: &mut Rng, script: &mut Vec<u8>) {
+    let call = match rng.below(3) {
+        0 => Call::CreateFont { height: 3 },
+        1 => Call::Select { dc: GDI_SCREEN_DC, object: STOCK_WHITE_BRUSH },
+        _ => Call::SetBkMode { dc: GDI_SCREEN_DC, transparent: 1 },
+    };
+    let bytes = call.bytes();
+    let len = 1 + rng.below(bytes.len() as u64 - 1);
+    script.extend_from_slice(&bytes[..len as usize]);
+}
+
+#[cfg(test)]
+mod tests {
+    use super::*;
+    use crate::calls::answers;
+
+    const HEADER: Header = Header { panel_len: 9, store_len: 40, width: 2, height: 2, fill: 1 };
+
+    #[test]
+    fn what_is_spoilt_is_bad() {
+        let mut rng = Rng::new(1);
+        for _ in 0..200 {
+            assert_eq!(answers(&too_large(&mut rng, HEADER).bytes()), "too large\n");
+            let lines = answers(&refused(&mut rng, HEADER).bytes());
+            assert!(lines.starts_with("open 6\n") || lines.starts_with("open 7\n"), "{lines}");
+            let mut script = HEADER.bytes();
+            end(&mut rng, &mut script);
+            assert!(answers(&script).starts_with("open 0\nbad call\npanel 2 2 "), "{script:?}");
+        }
+    }
+}

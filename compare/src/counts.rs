@@ -1,0 +1,42 @@
+//! Counts under names, for the tallies.
+
+use std::fmt;
+
+/// A count for each of some names.
+pub struct Counts<const N: usize> {
+    names: [&'static str; N],
+    counts: [u64; N],
+}
+
+impl<const N: usize> Counts<N> {
+    pub fn new(names: [&'static str; N]) -> Self {
+        Self { names, counts: [0; N] }
+    }
+
+    /// Adds one to the count of the name.
+    pub fn add(&mut self, name: &str) {
+        let at = self.names.iter().position(|known| *known == name);
+        self.counts[at.unwrap_or_else(|| panic!("nothing is counted as {name}"))] += 1;
+    }
+
+    pub fn sum(&self) -> u64 {
+        self.counts.iter().sum()
+    }
+
+    #[cfg(test)]
+    pub fn least(&self) -> u64 {
+        self.counts.iter().copied().min().unwrap_or_default()
+    }
+}
+
+impl<const N: usize> fmt::Display for Counts<N> {
+    fn fmt(&self, f: &mut fmt::Formatter<'_>) -> fmt::Result {
+        f.write_str(&listed(&self.names, &self.counts))
+    }
+}
+
+/// Names, each with its count.
+pub fn listed(names: &[&str], counts: &[u64]) -> String {
+    let listed: Vec<_> = names.iter().zip(counts).map(|(at, n)| format!("{at} {n}")).collect();
+    listed.join(", ")
+}

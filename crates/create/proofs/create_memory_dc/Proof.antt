@@ -1,0 +1,19 @@
+-- `create::create_memory_dc` meets its contract. Assumes nothing.
+use borrow.Author.Needs.{needs}
+use Rattle.create.proofs.create_memory_dc.Statement.{statement}
+use Rattle.create.proofs.create_memory_dc.Tie as tie
+
+default-dc-requires : tie.Need-default-dc-requires
+default-dc-requires c κs = search needs
+
+make-requires : tie.Need-make-requires
+make-requires c κs = (search needs, (rw (c .before .default-dc .ensures), search needs))
+
+same-length : tie.Need-same-length
+same-length c = search needs
+
+returns : tie.Need-returns
+returns c = rw (← c .before .before .before .before .default-dc .ensures) (c .before .before .make .ensures)
+
+pub create-memory-dc-spec : {M : Type 1} → statement M
+create-memory-dc-spec = tie.close (tie.spec default-dc-requires make-requires same-length returns)

@@ -1,0 +1,344 @@
+// The GDI object table by value: its types, the stock objects, and what a handle names.
+ghost use mathlib.Core.Path.{_≡_};
+ghost use mathlib.Core.Bool.{true};
+ghost use Prim.Native.Nat.{_≤_};
+ghost use Rattle.gdi.specs.Record.{defaultDc, screenDc, vacantSlot, fresh, within, storeOf};
+ghost use Rattle.gdi.specs.Stock.{isStock, stockKind};
+ghost use Rattle.gdi.specs.Lookup.{findOf, dcOf, kindAt, kindOf};
+use color::Colorref;
+
+// The handle that the first created object gets.
+pub const GDI_HANDLE_BASE: u32 = 0xDEAD_1000;
+
+// The handle of the screen DC.
+pub const GDI_SCREEN_DC: u32 = 0xDEAD_0DC0;
+
+pub const STOCK_WHITE_BRUSH: u32 = 0xDEAD_5701;
+
+pub const STOCK_LTGRAY_BRUSH: u32 = 0xDEAD_5702;
+
+pub const STOCK_GRAY_BRUSH: u32 = 0xDEAD_5703;
+
+pub const STOCK_BLACK_BRUSH: u32 = 0xDEAD_5704;
+
+pub const STOCK_NULL_BRUSH: u32 = 0xDEAD_5705;
+
+pub const STOCK_WHITE_PEN: u32 = 0xDEAD_5706;
+
+pub const STOCK_BLACK_PEN: u32 = 0xDEAD_5707;
+
+pub const STOCK_NULL_PEN: u32 = 0xDEAD_5708;
+
+pub const STOCK_DKGRAY_BRUSH: u32 = 0xDEAD_5709;
+
+pub const STOCK_SYSTEM_FONT: u32 = 0xDEAD_5710;
+
+pub const STOCK_DEFAULT_BITMAP: u32 = 0xDEAD_5720;
+
+// As many created objects a record can hold.
+pub const MAX_OBJECTS: usize = 256;
+
+// Whether a DC paints the panel or its selected bitmap.
+pub enum DcSurface {
+    Screen,
+    Memory,
+}
+
+// The bitmap selected into a DC: none before the first selection.
+pub enum SelectedBitmap {
+    Unset,
+    Chosen(u32),
+}
+
+pub struct Dc {
+    pub surface: DcSurface,
+    pub selected_bitmap: SelectedBitmap,
+    pub selected_brush: u32,
+    pub selected_pen: u32,
+    pub selected_font: u32,
+    pub brush_color: Colorref,
+    pub pen_color: Colorref,
+    pub text_color: Colorref,
+    pub text_align: u32,
+    pub bk_color: Colorref,
+    pub bk_transparent: bool,
+}
+
+// A bitmap's record; its pixels are in the store.
+pub struct Bitmap {
+    pub width: u32,
+    pub height: u32,
+    pub host_dirty: bool,
+}
+
+pub struct Brush {
+    pub color: Colorref,
+}
+
+pub struct Pen {
+    pub color: Colorref,
+    pub width: u32,
+}
+
+pub struct Font {
+    pub height: i32,
+}
+
+pub enum GdiObject {
+    Dc(Dc),
+    Bitmap(Bitmap),
+    Brush(Brush),
+    Pen(Pen),
+    Font(Font),
+}
+
+// A place of the table: an object under its handle.
+pub struct Slot {
+    pub handle: u32,
+    pub object: GdiObject,
+}
+
+// The bench record: the lengths of the two lent memories, the panel, the counters, the screen DC, the stock bitmap's dirty
+// mark, and the created objects in order of creation. The first count slots hold them.
+pub struct GdiState {
+    pub panel_len: usize,
+    pub store_len: usize,
+    pub width: u32,
+    pub height: u32,
+    pub frame_counter: u64,
+    pub next_handle: u32,
+    pub screen: Dc,
+    pub stock_dirty: bool,
+    pub count: usize,
+    pub objects: [Slot; 256],
+}
+
+// The slot of a created object.
+pub enum Found {
+    At(usize),
+    Nothing,
+}
+
+// Where a DC's record stands.
+pub enum Spot {
+    Screen,
+    Created(usize),
+}
+
+// A DC that was looked up.
+pub enum DcFound {
+    Is(Spot, Dc),
+    Absent,
+}
+
+// What a handle names, as far as selection asks.
+pub enum Kind {
+    Bitmap,
+    Brush(Colorref),
+    Pen(Colorref),
+    Font,
+    Other,
+}
+
+// Handles that no created object has, and that no deletion removes.
+pub fn is_stock_handle(handle: u32) -> bool
+    ensures { λ r. ⌜ r ≡ isStock handle ⌝ }
+{
+    match handle {
+        GDI_SCREEN_DC
+        | STOCK_WHITE_BRUSH
+        | STOCK_LTGRAY_BRUSH
+        | STOCK_GRAY_BRUSH
+        | STOCK_BLACK_BRUSH
+        | STOCK_NULL_BRUSH
+        | STOCK_WHITE_PEN
+        | STOCK_BLACK_PEN
+        | STOCK_NULL_PEN
+        | STOCK_DKGRAY_BRUSH
+        | STOCK_SYSTEM_FONT
+        | STOCK_DEFAULT_BITMAP => true,
+        _ => false,
+    }
+}
+
+// The record of a new memory DC.
+pub fn default_dc() -> Dc
+    ensures { λ r. ⌜ r ≡ defaultDc ⌝ }
+{
+    Dc {
+        surface: DcSurface::Memory,
+        selected_bitmap: SelectedBitmap::Unset,
+        selected_brush: STOCK_WHITE_BRUSH,
+        selected_pen: STOCK_BLACK_PEN,
+        selected_font: STOCK_SYSTEM_FONT,
+        brush_color: Colorref(0x00ff_ffff),
+        pen_color: Colorref(0),
+        text_color: Colorref(0),
+        text_align: 0,
+        bk_color: Colorref(0x00ff_ffff),
+        bk_transparent: false,
+    }
+}
+
+// The record of the screen DC of a fresh bench.
+pub fn screen_dc() -> Dc
+    ensures { λ r. ⌜ r ≡ screenDc ⌝ }
+{
+    Dc {
+        surface: DcSurface::Screen,
+        selected_bitmap: SelectedBitmap::Unset,
+        selected_brush: STOCK_WHITE_BRUSH,
+        selected_pen: STOCK_BLACK_PEN,
+        selected_font: STOCK_SYSTEM_FONT,
+        brush_color: Colorref(0x00ff_ffff),
+        pen_color: Colorref(0),
+        text_color: Colorref(0),
+        text_align: 0,
+        bk_color: Colorref(0x00ff_ffff),
+        bk_transparent: false,
+    }
+}
+
+// A slot that no object has.
+pub fn vacant_slot() -> Slot
+    ensures { λ r. ⌜ r ≡ vacantSlot ⌝ }
+{
+    Slot {
+        handle: 0,
+        object: GdiObject::Brush(Brush { color: Colorref(0) }),
+    }
+}
+
+// A record without created objects.
+pub fn fresh_state(panel_len: usize, store_len: usize, width: u32, height: u32) -> GdiState
+    ensures { λ r. ⌜ r ≡ fresh «panel_len» «store_len» width height ⌝ }
+{
+    let s = vacant_slot();
+    let l = [s; 256];
+    let d = screen_dc();
+    GdiState {
+        panel_len: panel_len,
+        store_len: store_len,
+        width: width,
+        height: height,
+        frame_counter: 0,
+        next_handle: GDI_HANDLE_BASE,
+        screen: d,
+        stock_dirty: false,
+        count: 0,
+        objects: l,
+    }
+}
+
+// The slot of the created object of this handle.
+pub fn find(state: GdiState, handle: u32) -> Found
+    requires { ⌜ state .count ≤ 256 ⌝ }
+    ensures { λ r. ⌜ r ≡ findOf state handle ⌝ }
+{
+    let n = state.count;
+    let mut i: usize = 0;
+    while i < n {
+        if state.objects[i].handle == handle {
+            return Found::At(i);
+        }
+        i += 1;
+    }
+    Found::Nothing
+}
+
+// The DC of this handle.
+pub fn find_dc(state: GdiState, handle: u32) -> DcFound
+    requires { ⌜ state .count ≤ 256 ⌝ }
+    ensures { λ r. ⌜ r ≡ dcOf state handle ⌝ }
+{
+    if handle == GDI_SCREEN_DC {
+        let d = state.screen;
+        return DcFound::Is(Spot::Screen, d);
+    }
+    match find(state, handle) {
+        Found::At(i) => {
+            let s = state.objects[i];
+            let o = s.object;
+            match o {
+                GdiObject::Dc(d) => DcFound::Is(Spot::Created(i), d),
+                _ => DcFound::Absent,
+            }
+        }
+        Found::Nothing => DcFound::Absent,
+    }
+}
+
+// The record with d as the DC of this handle, which stands at spot.
+pub fn store_dc(state: GdiState, handle: u32, spot: Spot, d: Dc) -> GdiState
+    requires { ⌜ within spot ≡ true ⌝ }
+    ensures { λ r. ⌜ r ≡ storeOf state handle spot d ⌝ }
+{
+    let mut after = state;
+    match spot {
+        Spot::Screen => {
+            after.screen = d;
+            after
+        }
+        Spot::Created(i) => {
+            after.objects[i] = Slot {
+                handle: handle,
+                object: GdiObject::Dc(d),
+            };
+            after
+        }
+    }
+}
+
+// What a stock handle names.
+pub fn stock_kind(handle: u32) -> Kind
+    ensures { λ r. ⌜ r ≡ stockKind handle ⌝ }
+{
+    match handle {
+        STOCK_WHITE_BRUSH => Kind::Brush(Colorref(0x00ff_ffff)),
+        STOCK_LTGRAY_BRUSH => Kind::Brush(Colorref(0x00c0_c0c0)),
+        STOCK_GRAY_BRUSH => Kind::Brush(Colorref(0x0080_8080)),
+        STOCK_BLACK_BRUSH => Kind::Brush(Colorref(0)),
+        STOCK_NULL_BRUSH => Kind::Brush(Colorref(0xff00_0000)),
+        STOCK_WHITE_PEN => Kind::Pen(Colorref(0x00ff_ffff)),
+        STOCK_BLACK_PEN => Kind::Pen(Colorref(0)),
+        STOCK_NULL_PEN => Kind::Pen(Colorref(0xff00_0000)),
+        STOCK_DKGRAY_BRUSH => Kind::Brush(Colorref(0x0040_4040)),
+        STOCK_SYSTEM_FONT => Kind::Font,
+        STOCK_DEFAULT_BITMAP => Kind::Bitmap,
+        _ => Kind::Other,
+    }
+}
+
+// The kind of an object, with the colour that a selection copies.
+pub fn kind_at(object: GdiObject) -> Kind
+    ensures { λ r. ⌜ r ≡ kindAt object ⌝ }
+{
+    match object {
+        GdiObject::Dc(_) => Kind::Other,
+        GdiObject::Bitmap(_) => Kind::Bitmap,
+        GdiObject::Brush(x) => {
+            let c = x.color;
+            Kind::Brush(c)
+        }
+        GdiObject::Pen(x) => {
+            let c = x.color;
+            Kind::Pen(c)
+        }
+        GdiObject::Font(_) => Kind::Font,
+    }
+}
+
+// What a handle names, created or stock.
+pub fn find_kind(state: GdiState, handle: u32) -> Kind
+    requires { ⌜ state .count ≤ 256 ⌝ }
+    ensures { λ r. ⌜ r ≡ kindOf state handle ⌝ }
+{
+    match find(state, handle) {
+        Found::At(i) => {
+            let s = state.objects[i];
+            let o = s.object;
+            kind_at(o)
+        }
+        Found::Nothing => stock_kind(handle),
+    }
+}

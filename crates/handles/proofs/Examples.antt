@@ -1,0 +1,36 @@
+-- Examples of new handles, each computed; that stock handles are stepped over is one of crates/examples. Assumes nothing.
+use mathlib.Core.Path.{_≡_, refl}
+use Prim.Native.Nat.{ℕ}
+use Rattle.gdi.specs.declared.GdiState.{GdiState}
+use Rattle.gdi.specs.declared.GdiObject.{GdiObject}
+use Rattle.gdi.specs.Record.{fresh, withObjects}
+use Rattle.gdi.specs.Stock.{isStock}
+use Rattle.handles.specs.Handles.{free, firstFree, newHandle, added}
+
+-- a record with another next handle
+abbrev withNext : GdiState → ℕ → GdiState
+withNext b h = withObjects b h (b .count) (b .objects)
+
+-- a bench without objects, at this next handle
+abbrev benchAt : ℕ → GdiState
+benchAt h = withNext (fresh 2 12 1 1) h
+
+-- the first handle
+pub first : newHandle (fresh 2 12 1 1) ≡ 0xDEAD_1000
+unfolding firstFree free isStock
+first = refl
+
+-- the next handle is then one past it
+pub next : (o : GdiObject) → added (fresh 2 12 1 1) o .«next_handle» ≡ 0xDEAD_1001
+unfolding added firstFree free isStock
+next o = refl
+
+-- after the last value comes 1
+pub after-last : (o : GdiObject) → newHandle (added (benchAt 0xFFFF_FFFF) o) ≡ 1
+unfolding added firstFree free isStock
+after-last o = refl
+
+-- a live handle is not given again
+pub past-live : (o : GdiObject) → newHandle (withNext (added (benchAt 0xDEAD_1000) o) 0xDEAD_1000) ≡ 0xDEAD_1001
+unfolding added firstFree free isStock
+past-live o = refl

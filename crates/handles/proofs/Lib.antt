@@ -1,0 +1,4 @@
+pub mod Search
+pub mod Pigeon
+pub mod Added
+pub mod Examples

@@ -1,0 +1,58 @@
+-- The steps of the search for a free handle, the cases of its test, and the record that appending makes. Assumes nothing.
+use mathlib.Core.Bool.{Bool, true, false}
+use mathlib.Core.List.{List, map}
+use mathlib.Core.Path.{_≡_}
+use Prim.Native.Nat.{ℕ, suc, _+_, _-_, _%_, _<_, _≤_}
+use native.Mathlib.Numerals.{add-one}
+use native.Mathlib.Omega.{arith}
+use lib.ListN.{length, set, length-map}
+use lib.Seq.{set-split}
+use borrow.Author.Tests.{eq-eqb, ne-eqb}
+use Rattle.gdi.specs.declared.GdiState.{GdiState}
+use Rattle.gdi.specs.declared.Slot.{Slot}
+use Rattle.gdi.specs.declared.GdiObject.{GdiObject}
+use Rattle.gdi.specs.Record.{withObjects}
+use Rattle.gdi.specs.Stock.{isStock}
+use Rattle.sound.specs.Sound.{absent}
+use Rattle.handles.specs.Handles.{free, ahead, firstFree, tries, addedAs}
+
+-- the cases of the test
+module _ (l : List Slot) (n h : ℕ) where
+  pub zero-taken : h ≡ 0 → false ≡ free l n h
+  unfolding free
+  zero-taken e = rw (eq-eqb _ _ e)
+
+  module _ (ne : h ≡ 0 → ⊥) where
+    pub stock-taken : isStock h ≡ true → false ≡ free l n h
+    unfolding free
+    stock-taken e = rw (ne-eqb _ _ ne, e)
+
+    pub by-absent : {r : Bool} → isStock h ≡ false → r ≡ absent l n h → r ≡ free l n h
+    unfolding free
+    by-absent e f = rw (ne-eqb _ _ ne, e) f
+
+-- the search's steps, as the loop of `alloc_handle` takes them
+module _ (l : List Slot) (n h i : ℕ) where
+  pub hit : i < tries → free l n (ahead h i) ≡ true → firstFree l n h i (tries - i) ≡ ahead h i
+  unfolding firstFree
+  hit lt e = let m : tries - i ≡ suc (tries - (i + 1)) = omega arith in rw (m, e)
+
+  pub miss : i < tries → free l n (ahead h i) ≡ false → firstFree l n h i (tries - i) ≡ firstFree l n h (i + 1) (tries - (i + 1))
+  unfolding firstFree
+  miss lt e = let m : tries - i ≡ suc (tries - (i + 1)) = omega arith in rw (m, e, add-one)
+
+  pub end : tries ≤ i → firstFree l n h i (tries - i) ≡ ahead h i
+  unfolding firstFree
+  end le = let m : tries - i ≡ 0 = omega arith in rw m
+
+pub ahead-next : (h i : ℕ) → (ahead h i + 1) % 4294967296 ≡ ahead h (i + 1)
+ahead-next h i = omega arith
+
+-- an index of an array of structs, whose length a need has as that of a mapped list
+pub below-mapped : {X Y : Type 0} (f : X → Y) (l : List X) (i n : ℕ) → length (map f l) ≡ n → i < n → i < length l
+below-mapped f l i n e lt = rw (simp length-map at e) lt
+
+-- the record that the code makes
+pub append-as : (b : GdiState) (h : ℕ) (o : GdiObject) {m : ℕ} → m ≡ ahead h 1 → b .count < length (b .objects)
+    → withObjects b m (b .count + 1) (set (b .objects) (b .count) (record { handle = h; object = o })) ≡ addedAs b h o
+append-as b h o e lt = rw (set-split (b .objects) (b .count) (record { handle = h; object = o }) lt, e)

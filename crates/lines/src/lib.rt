@@ -1,0 +1,135 @@
+// A line of output as it grows: words, and numbers in lower-case hexadecimal or in decimal. A caller owes that there is room.
+ghost use mathlib.Core.Bool.{cond};
+ghost use mathlib.Core.List.{[], _∷_};
+ghost use mathlib.Core.Path.{_≡_};
+ghost use Prim.Native.Nat.{_+_, _≤_, _<_, _^_};
+ghost use lib.ListN.{length};
+ghost use Rattle.io.specs.Digits.{digits};
+ghost use Rattle.lines.specs.Lines.{Added, DecimalAdded, SignedAdded};
+
+// The first len bytes are the line so far. The longest, of a bench's counters, can have 125 with its end.
+pub struct Line {
+    pub bytes: [u8; 160],
+    pub len: usize,
+}
+
+// A line with nothing in it yet.
+pub fn empty() -> Line
+    ensures { λ r. ⌜ r .len ≡ 0 ⌝ }
+{
+    Line {
+        bytes: [0; 160],
+        len: 0,
+    }
+}
+
+impl Line {
+    // One more character.
+    pub fn put(mut self, c: u8) -> Line
+        requires { ⌜ self .len < 160 ⌝ }
+        ensures { λ r. ⌜ Added self 1 (c ∷ []) r ⌝ }
+    {
+        let at = self.len;
+        self.bytes[at] = c;
+        self.len = at + 1;
+        self
+    }
+
+    // The space between two words.
+    pub fn space(self) -> Line
+        requires { ⌜ self .len < 160 ⌝ }
+        ensures { λ r. ⌜ Added self 1 (32 ∷ []) r ⌝ }
+    {
+        self.put(b' ')
+    }
+
+    // 1 for true, 0 for false.
+    pub fn flag(self, b: bool) -> Line
+        requires { ⌜ self .len < 160 ⌝ }
+        ensures { λ r. ⌜ Added self 1 (cond b 49 48 ∷ []) r ⌝ }
+    {
+        if b {
+            return self.put(b'1');
+        }
+        self.put(b'0')
+    }
+
+    // The characters of s.
+    pub fn text(self, s: &[u8]) -> Line
+        requires { ⌜ self .len + length (now s) ≤ 160 ⌝ }
+        ensures { λ r. ⌜ Added self (length (now (s .entry))) (now (s .entry)) r ⌝ }
+    {
+        let mut out = self;
+        for k in 0..s.len() {
+            out = out.put(s[k]);
+        }
+        out
+    }
+
+    // A byte.
+    pub fn hex2(self, v: u8) -> Line
+        requires { ⌜ self .len + 2 ≤ 160 ⌝ }
+        ensures { λ r. ⌜ Added self 2 (digits 16 2 v) r ⌝ }
+    {
+        self.hex(v as u64, 2)
+    }
+
+    // A word.
+    pub fn hex4(self, v: u16) -> Line
+        requires { ⌜ self .len + 4 ≤ 160 ⌝ }
+        ensures { λ r. ⌜ Added self 4 (digits 16 4 v) r ⌝ }
+    {
+        self.hex(v as u64, 4)
+    }
+
+    // A number of 32 bits.
+    pub fn hex8(self, v: u32) -> Line
+        requires { ⌜ self .len + 8 ≤ 160 ⌝ }
+        ensures { λ r. ⌜ Added self 8 (digits 16 8 v) r ⌝ }
+    {
+        self.hex(v as u64, 8)
+    }
+
+    // A number of n hexadecimal digits.
+    fn hex(self, v: u64, n: usize) -> Line
+        requires { ⌜ (1 ≤ n) × (n ≤ 16) ⌝ }
+        requires { ⌜ v < 16 ^ n ⌝ }
+        requires { ⌜ self .len + n ≤ 160 ⌝ }
+        ensures { λ r. ⌜ Added self n (digits 16 n v) r ⌝ }
+    {
+        let mut places = [0u8; 16];
+        let k = io::hex(v, n, &mut places);
+        self.text(&places[..k])
+    }
+
+    // A number in decimal, without zeros in front.
+    pub fn decimal(self, v: u64) -> Line
+        requires { ⌜ self .len + 20 ≤ 160 ⌝ }
+        ensures { λ r. ⌜ DecimalAdded self v r ⌝ }
+    {
+        let mut places = [0u8; 20];
+        let k = io::decimal(v, &mut places);
+        self.text(&places[..k])
+    }
+
+    // The same with a sign in front of a negative number.
+    pub fn signed_decimal(self, v: i32) -> Line
+        requires { ⌜ self .len + 21 ≤ 160 ⌝ }
+        ensures { λ r. ⌜ SignedAdded self v r ⌝ }
+    {
+        if v < 0 {
+            return self.put(b'-').decimal((0 - (v as i64)) as u64);
+        }
+        self.decimal(v as u64)
+    }
+
+    // Writes the line with its end, in one call.
+    pub fn print(self)
+        requires { ⌜ self .len < 160 ⌝ }
+    {
+        let l = self.put(b'\n');
+        let n = l.len;
+        let bytes = l.bytes;
+        io::write_all(libc::STDOUT_FILENO, &bytes[0..n]);
+    }
+}

@@ -1,0 +1,36 @@
+-- `memory::close_up` meets its contract: a gap of nothing is closed, and another one by a move down and zeros. Assumes nothing.
+use mathlib.Core.Path.{sym, _∙_}
+use Prim.Native.Nat.{_-_}
+use native.Mathlib.Omega.{arith}
+use borrow.Author.Needs.{needs}
+use Rattle.memory.proofs.Gap.{closed-none, filled-all, two-pastes}
+use Rattle.memory.proofs.close_up.Statement.{statement}
+use Rattle.memory.proofs.close_up.Tie as tie
+
+returns : tie.Need-returns
+returns c = let a = c .before .before .args in closed-none 0 (a .mem .now) (a .p) (a .n) (a .used) (c .if1 .taken) (omega arith)
+
+sub-end : tie.Need-sub-end
+sub-end c = search needs
+
+move-down-requires : tie.Need-move-down-requires
+move-down-requires c κs = search needs
+
+zero-requires : tie.Need-zero-requires
+zero-requires c κs = search needs
+
+same-length : tie.Need-same-length
+same-length c = search needs
+
+returns-2 : tie.Need-returns-2
+returns-2 c =
+    let e = c .before .before .before .before .before .before .before .before .before .before in
+    let a = e .args in
+    let m = c .before .before .before .before .before .before .move-down in
+    c .before .before .zero .ensures
+    ∙ sym (filled-all 0 (m .last .0) (a .used - a .n) (a .n))
+    ∙ two-pastes 0 (a .mem .now) (a .p) (a .n) (a .used) (e .pre .0) (e .pre .1) (m .last .0) (m .ensures)
+
+pub close-up-spec : {M : Type 1} → statement M
+close-up-spec =
+    tie.close (tie.spec returns sub-end move-down-requires zero-requires same-length returns-2)

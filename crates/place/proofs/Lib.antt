@@ -1,0 +1,4 @@
+pub mod Places
+pub mod Targets
+pub mod Apart
+pub mod Same

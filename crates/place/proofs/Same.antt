@@ -1,0 +1,147 @@
+-- A record whose slots keep handle, frame and size has its surfaces in the same places, so one with a changed DC. Assumes nothing.
+use mathlib.Core.Bool.{Bool, true, false, not, cond}
+use mathlib.Core.List.{List, [], _∷_}
+use mathlib.Core.Path.{_≡_, refl, sym, _∙_, ap}
+use Prim.Native.Nat.{ℕ, zero, suc, _+_}
+use native.Mathlib.Omega.{arith}
+use lib.Dec.{eqb}
+use lib.ListN.{getD, set}
+use Rattle.laws.proofs.Test.{all-same}
+use Rattle.laws.proofs.Sum.{sum-same}
+use Rattle.gdi.specs.declared.Dc.{Dc}
+use Rattle.gdi.specs.declared.DcFound.the-variants.{Is}
+use Rattle.gdi.specs.declared.Found.{Found}
+use Rattle.gdi.specs.declared.Found.the-variants.{At as FoundAt, Nothing}
+use Rattle.gdi.specs.declared.GdiObject.{GdiObject}
+use Rattle.gdi.specs.declared.GdiObject.the-variants.{Dc as DcOf, Bitmap as BitmapOf, Brush, Pen, Font}
+use Rattle.gdi.specs.declared.GdiState.{GdiState}
+use Rattle.gdi.specs.declared.Slot.{Slot}
+use Rattle.gdi.specs.declared.Spot.{Spot}
+use Rattle.gdi.specs.declared.Spot.the-variants.{Screen, Created}
+use Rattle.gdi.specs.Record.{noSlot, bytesOf, withObjects, storeOf}
+use Rattle.gdi.specs.Stock.{stockBitmap}
+use Rattle.gdi.specs.Lookup.{slotAt, handleAt, objectAt, findOf, dcAt, dcFound, dcOf}
+use Rattle.gdi.proofs.Scan.{scan-handle}
+use Rattle.sound.specs.Sound.{objectFits, slotFits, absent, distinct, isSound}
+use Rattle.place.specs.declared.Memory.the-variants.{Store}
+use Rattle.place.specs.declared.Place.{Place}
+use Rattle.place.specs.declared.Place.the-variants.{At}
+use Rattle.place.specs.declared.SurfaceId.{SurfaceId}
+use Rattle.place.specs.declared.SurfaceId.the-variants.{Panel, Bitmap}
+use Rattle.place.specs.Place.{slotsFrom, frameOf, locate, whereIs}
+
+-- every surface of the second record lies where it lies in the first
+abbrev pub SamePlaces : GdiState → GdiState → Type 0
+SamePlaces b b′ = (u : SurfaceId) → whereIs b′ u ≡ whereIs b u
+
+-- a slot that keeps what places depend on
+pub record Kept (s t : Slot) : Type 0 where
+  pub handle : s .handle ≡ t .handle
+  pub frame : (p : ℕ) → frameOf (s .object) p ≡ frameOf (t .object) p
+  pub bytes : bytesOf (s .object) ≡ bytesOf (t .object)
+
+-- a list with one slot changed that keeps f
+pub set-same : {A : Type 0} (f : Slot → A) (l : List Slot) (i : ℕ) (s : Slot) → f s ≡ f (getD l i noSlot) → (j : ℕ)
+    → f (getD (set l i s) j noSlot) ≡ f (getD l j noSlot)
+set-same f [] i s e j = refl
+set-same f (x ∷ l) zero s e zero = e
+set-same f (x ∷ l) zero s e (suc j) = refl
+set-same f (x ∷ l) (suc i) s e zero = refl
+set-same f (x ∷ l) (suc i) s e (suc j) = set-same f l i s e j
+
+pub set-kept : (l : List Slot) (i : ℕ) (s : Slot) → Kept s (getD l i noSlot) → (j : ℕ) → Kept (getD (set l i s) j noSlot) (getD l j noSlot)
+set-kept l i s k j =
+    record {
+      handle = set-same (λ t. t .handle) l i s (k .handle) j;
+      frame = λ p. set-same (λ t. frameOf (t .object) p) l i s (k .frame p) j;
+      bytes = set-same (λ t. bytesOf (t .object)) l i s (k .bytes) j;
+    }
+
+module _ (l n : List Slot) (kept : (j : ℕ) → Kept (getD l j noSlot) (getD n j noSlot)) where
+  pub same-locate : (k m p h : ℕ) → locate (slotsFrom l k m) p h ≡ locate (slotsFrom n k m) p h
+  unfolding locate slotsFrom
+  same-locate k zero p h = refl
+  same-locate k (suc m) p h =
+      rw (kept k .handle, kept k .frame p, kept k .bytes, same-locate (suc k) m (p + bytesOf (getD n k noSlot .object)) h)
+
+  same-absent : (m h : ℕ) → absent l m h ≡ absent n m h
+  same-absent m h = all-same m _ _ (λ j lt. ap (λ (g : ℕ). not (eqb g h)) (kept j .handle))
+
+  same-distinct : (m : ℕ) → distinct l m ≡ distinct n m
+  same-distinct m = all-same m _ _ (λ j lt. same-absent j (handleAt l j) ∙ ap (absent n j) (kept j .handle))
+
+-- a record with other slots, each of which is kept
+module _ (b : GdiState) (next : ℕ) (l : List Slot) (kept : (j : ℕ) → Kept (getD l j noSlot) (slotAt b j)) where
+  pub kept-places : SamePlaces b (withObjects b next (b .count) l)
+  kept-places Panel = refl
+  kept-places (Bitmap h) =
+      ap (λ (z : Place). cond (eqb h stockBitmap) (At Store 0 1 1) z) (same-locate l (b .objects) kept 0 (b .count) 2 h)
+
+  pub kept-sound : ((j : ℕ) → objectFits (getD l j noSlot .object) ≡ objectFits (objectAt b j))
+      → isSound (withObjects b next (b .count) l) ≡ isSound b
+  unfolding isSound
+  kept-sound fits =
+      rw (
+        all-same (b .count) (λ i. slotFits (getD l i noSlot)) (λ i. slotFits (slotAt b i)) (λ i lt. rw (kept i .handle, fits i)),
+        same-distinct l (b .objects) kept (b .count),
+        sum-same (b .count) (λ i. bytesOf (getD l i noSlot .object)) (λ i. bytesOf (objectAt b i)) (λ i lt. kept i .bytes),
+      )
+
+-- a created DC stands in the slot of its handle
+pub dc-found : (b : GdiState) (h : ℕ) {i : ℕ} {d : Dc} → dcOf b h ≡ Is (Created i) d → (findOf b h ≡ FoundAt i) × (objectAt b i ≡ DcOf d)
+unfolding dcOf
+dc-found b h {i} {d} e = by-test (eqb h 0xDEAD_0DC0) e
+  where
+    by-object : (j : ℕ) (o : GdiObject) → dcAt j o ≡ Is (Created i) d → (j ≡ i) × (o ≡ DcOf d)
+    by-object j (DcOf x) f = (cc, cc)
+    by-object j (BitmapOf x) f = let z : _≡_ {A = ℕ} 0 1 = cc in absurd (omega arith)
+    by-object j (Brush x) f = let z : _≡_ {A = ℕ} 0 1 = cc in absurd (omega arith)
+    by-object j (Pen x) f = let z : _≡_ {A = ℕ} 0 1 = cc in absurd (omega arith)
+    by-object j (Font x) f = let z : _≡_ {A = ℕ} 0 1 = cc in absurd (omega arith)
+
+    by-found : (q : Found) → findOf b h ≡ q → dcFound b q ≡ Is (Created i) d → (findOf b h ≡ FoundAt i) × (objectAt b i ≡ DcOf d)
+    by-found (FoundAt j) g f =
+        let r = by-object j (objectAt b j) f in
+        (g ∙ ap FoundAt (r .0), ap (objectAt b) (sym (r .0)) ∙ r .1)
+    by-found Nothing g f = let z : _≡_ {A = ℕ} 0 1 = cc in absurd (omega arith)
+
+    by-test : (t : Bool) → cond t (Is Screen (b .screen)) (dcFound b (findOf b h)) ≡ Is (Created i) d
+        → (findOf b h ≡ FoundAt i) × (objectAt b i ≡ DcOf d)
+    by-test true f = let z : _≡_ {A = ℕ} 0 1 = cc in absurd (omega arith)
+    by-test false f = by-found (findOf b h) refl f
+
+-- another DC record in its slot, under its handle
+abbrev dcSlot : ℕ → Dc → Slot
+dcSlot h d = record { handle = h; object = DcOf d }
+
+module _ (b : GdiState) (dc : ℕ) {i : ℕ} {d₀ : Dc} (d : Dc) (e : dcOf b dc ≡ Is (Created i) d₀) where
+  dc-kept : (j : ℕ) → Kept (getD (set (b .objects) i (dcSlot dc d)) j noSlot) (slotAt b j)
+  dc-kept =
+      set-kept (b .objects) i (dcSlot dc d) (record {
+        handle = sym (scan-handle (b .objects) dc 0 (b .count) (dc-found b dc e .0));
+        frame = λ p. rw (dc-found b dc e .1);
+        bytes = rw (dc-found b dc e .1);
+      })
+
+  dc-fits : d .surface ≡ d₀ .surface → (j : ℕ)
+      → objectFits (getD (set (b .objects) i (dcSlot dc d)) j noSlot .object) ≡ objectFits (objectAt b j)
+  dc-fits f = set-same (λ s. objectFits (s .object)) (b .objects) i (dcSlot dc d) (rw (dc-found b dc e .1, f))
+
+module _ (b : GdiState) (dc : ℕ) {p : Spot} {d₀ : Dc} (d : Dc) where
+  -- selection and settings leave every surface where it was
+  pub stored-places : dcOf b dc ≡ Is p d₀ → SamePlaces b (storeOf b dc p d)
+  stored-places = by p
+    where
+      by : (q : Spot) → dcOf b dc ≡ Is q d₀ → SamePlaces b (storeOf b dc q d)
+      by Screen e Panel = refl
+      by Screen e (Bitmap h) = refl
+      by (Created i) e u = kept-places b (b .«next_handle») (set (b .objects) i (dcSlot dc d)) (dc-kept b dc d e) u
+
+  -- and the record sound
+  pub stored-sound : isSound b ≡ true → dcOf b dc ≡ Is p d₀ → d .surface ≡ d₀ .surface → isSound (storeOf b dc p d) ≡ true
+  unfolding isSound
+  stored-sound s e f = by p e ∙ s
+    where
+      by : (q : Spot) → dcOf b dc ≡ Is q d₀ → isSound (storeOf b dc q d) ≡ isSound b
+      by Screen e = refl
+      by (Created i) e = kept-sound b (b .«next_handle») (set (b .objects) i (dcSlot dc d)) (dc-kept b dc d e) (dc-fits b dc d e f)

@@ -1,0 +1,4 @@
+pub mod Refusal
+pub mod Create
+pub mod Select
+pub mod Vacant

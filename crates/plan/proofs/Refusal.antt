@@ -1,0 +1,109 @@
+-- Every refusal is one that changes nothing. Assumes nothing.
+use mathlib.Core.Bool.{Bool, true, false, cond, _||_}
+use mathlib.Core.Path.{_≡_, refl}
+use Prim.Native.Nat.{ℕ, _+_}
+use lib.Dec.{eqb, leb, ltb}
+use Rattle.gdi.specs.declared.GdiState.{GdiState}
+use Rattle.gdi.specs.declared.GdiObject.{GdiObject}
+use Rattle.gdi.specs.declared.Dc.{Dc}
+use Rattle.gdi.specs.declared.Kind.{Kind}
+use Rattle.gdi.specs.declared.Found.{Found}
+use Rattle.gdi.specs.declared.Found.the-variants.{At, Nothing}
+use Rattle.gdi.specs.declared.DcFound.{DcFound}
+use Rattle.gdi.specs.declared.DcFound.the-variants.{Is, Absent}
+use Rattle.gdi.specs.Record.{bytesOf}
+use Rattle.gdi.specs.Stock.{isStock}
+use Rattle.gdi.specs.Lookup.{findOf, dcOf, kindOf}
+use Rattle.sound.specs.Sound.{used}
+use Rattle.ready.specs.Ready.{commonRefusal}
+use Rattle.plan.specs.declared.Call.{Call}
+use Rattle.plan.specs.declared.Call.the-variants.{CreateMemoryDc, CreateCompatibleBitmap, CreateSolidBrush, CreatePen, CreateFont, Delete, Remove, SelectInto, SetTextColor, SetTextAlign, SetBkColor, SetBkMode}
+use Rattle.plan.specs.declared.Answer.{Answer}
+use Rattle.plan.specs.declared.Answer.the-variants.{Handle}
+use Rattle.plan.specs.Answer.{partsOf}
+use Rattle.plan.specs.Plan.{Plan, told, refuse}
+use Rattle.plan.specs.Create.{made, newBitmap, createOf, createBitmap}
+use Rattle.plan.specs.Delete.{goneAt, goes}
+use Rattle.plan.specs.Select.{isOther, selectAt, selectInto}
+use Rattle.plan.specs.Settings.{settingAt, setting}
+use Rattle.plan.specs.Calls.{act, plan}
+use Rattle.plan.specs.Refusal.{numberOf, RefusalsKeep}
+
+-- a plan that, if it refuses, changes nothing
+record Keeps (b : GdiState) (p : Plan) : Type 0 where
+  keeps : (numberOf p ≡ 0 → ⊥) → p ≡ refuse (numberOf p) b
+
+refusal : (b : GdiState) (n : ℕ) → Keeps b (refuse n b)
+refusal b n = record { keeps = λ h. refl }
+
+accepted : (b : GdiState) (p : Plan) → numberOf p ≡ 0 → Keeps b p
+accepted b p e = record { keeps = λ h. absurd (h e) }
+
+create : (b : GdiState) (o : GdiObject) → Keeps b (createOf b o)
+unfolding createOf
+create b o = by (leb 256 (b .count)) (ltb (b .«store_len») (used b + bytesOf o))
+  where
+    by : (s t : Bool) → Keeps b (cond s (refuse 5 b) (cond t (refuse 7 b) (made b o)))
+    by true t = refusal b 5
+    by false true = refusal b 7
+    by false false = accepted b _ refl
+
+bitmap : (b : GdiState) (w h : ℕ) → Keeps b (createBitmap b w h)
+unfolding createBitmap
+bitmap b w h = by (ltb 4096 w || ltb 4096 h)
+  where
+    by : (t : Bool) → Keeps b (cond t (refuse 6 b) (createOf b (newBitmap w h)))
+    by true = refusal b 6
+    by false = create b (newBitmap w h)
+
+module _ (stock : Answer) (gone : ℕ → Answer) (none : Answer) (b : GdiState) (h : ℕ)
+    (s : partsOf stock .number ≡ 0) (g : (i : ℕ) → partsOf (gone i) .number ≡ 0) (n : partsOf none .number ≡ 0) where
+  leave : Keeps b (goes stock gone none b h)
+  unfolding goes
+  leave = by (isStock h) (findOf b h)
+    where
+      by : (t : Bool) (q : Found) → Keeps b (cond t (told b stock) (goneAt gone none b h q))
+      by true q = accepted b _ s
+      by false (At i) = accepted b _ (g i)
+      by false Nothing = accepted b _ n
+
+select : (b : GdiState) (dc h : ℕ) → Keeps b (selectInto b dc h)
+unfolding selectInto
+select b dc h = by (isOther (kindOf b h)) (kindOf b h) (dcOf b dc)
+  where
+    by : (t : Bool) (k : Kind) (q : DcFound) → Keeps b (cond t (told b (Handle 0)) (selectAt b dc h k q))
+    by true k q = accepted b _ refl
+    by false k (Is p d) = accepted b _ refl
+    by false k Absent = accepted b _ refl
+
+set : (old : Dc → Answer) (new : Dc → Dc) (b : GdiState) (dc : ℕ) → ((d : Dc) → partsOf (old d) .number ≡ 0) → Keeps b (setting old new b dc)
+unfolding setting
+set old new b dc e = by (dcOf b dc)
+  where
+    by : (q : DcFound) → Keeps b (settingAt old new b dc q)
+    by (Is p d) = accepted b _ (e d)
+    by Absent = refusal b 1
+
+-- a line for each call
+call : (c : Call) (b : GdiState) → Keeps b (act c b)
+unfolding act
+call CreateMemoryDc b = create b _
+call (CreateCompatibleBitmap w h) b = bitmap b w h
+call (CreateSolidBrush c) b = create b _
+call (CreatePen c w) b = create b _
+call (CreateFont h) b = create b _
+call (Delete h) b = leave _ _ _ b h refl (λ i. refl) refl
+call (Remove h) b = leave _ _ _ b h refl (λ i. refl) refl
+call (SelectInto dc h) b = select b dc h
+call (SetTextColor dc c) b = set _ _ b dc (λ d. refl)
+call (SetTextAlign dc v) b = set _ _ b dc (λ d. refl)
+call (SetBkColor dc c) b = set _ _ b dc (λ d. refl)
+call (SetBkMode dc t) b = set _ _ b dc (λ d. refl)
+
+pub refusals-keep : RefusalsKeep
+unfolding plan
+refusals-keep c b n k = by (eqb (commonRefusal b n k) 0) .keeps
+  where
+    by : (t : Bool) → Keeps b (cond t (act c b) (refuse (commonRefusal b n k) b))
+    by true = call c b
+    by false = refusal b _

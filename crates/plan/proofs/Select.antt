@@ -1,0 +1,77 @@
+-- Select and the settings change DC records alone: what stays of the bench. Assumes nothing.
+use mathlib.Core.Bool.{Bool, true, false, cond}
+use mathlib.Core.List.{[]}
+use mathlib.Core.Path.{_≡_, refl}
+use Prim.Native.Nat.{ℕ}
+use Rattle.gdi.specs.declared.GdiState.{GdiState}
+use Rattle.gdi.specs.declared.Dc.{Dc}
+use Rattle.gdi.specs.declared.Kind.{Kind}
+use Rattle.gdi.specs.declared.Kind.the-variants.{Bitmap, Brush, Pen, Font, Other}
+use Rattle.gdi.specs.declared.Spot.{Spot}
+use Rattle.gdi.specs.declared.Spot.the-variants.{Screen, Created}
+use Rattle.gdi.specs.declared.DcFound.{DcFound}
+use Rattle.gdi.specs.declared.DcFound.the-variants.{Is, Absent}
+use Rattle.gdi.specs.Record.{storeOf}
+use Rattle.gdi.specs.Lookup.{dcOf, kindOf}
+use Rattle.sound.specs.Sound.{isSound}
+use Rattle.place.proofs.Same.{SamePlaces, stored-places, stored-sound}
+use Rattle.plan.specs.declared.Answer.{Answer}
+use Rattle.plan.specs.declared.Answer.the-variants.{Handle}
+use Rattle.plan.specs.Plan.{Plan, told}
+use Rattle.plan.specs.Select.{selectIn, isOther, selectAt, selectInto}
+use Rattle.plan.specs.Settings.{settingAt, setting}
+
+-- A plan that paints nothing and leaves every surface in its place, the record sound if it was, and its lengths.
+pub record Unpainted (b : GdiState) (p : Plan) : Type 0 where
+  pub paint : p .paint ≡ []
+  pub places : SamePlaces b (p .outcome .state)
+  pub sound : isSound b ≡ true → isSound (p .outcome .state) ≡ true
+  pub panel-len : p .outcome .state .«panel_len» ≡ b .«panel_len»
+  pub store-len : p .outcome .state .«store_len» ≡ b .«store_len»
+
+told-unpainted : (b : GdiState) (a : Answer) → Unpainted b (told b a)
+told-unpainted b a = record { paint = refl; places = λ u. refl; sound = λ s. s; panel-len = refl; store-len = refl }
+
+-- another DC record, with the same kind of surface
+module _ (b : GdiState) (dc : ℕ) {p : Spot} {d₀ : Dc} (d : Dc) (a : Answer) (found : dcOf b dc ≡ Is p d₀) (same : d .surface ≡ d₀ .surface) where
+  panel-kept : (p : Spot) → storeOf b dc p d .«panel_len» ≡ b .«panel_len»
+  panel-kept Screen = refl
+  panel-kept (Created i) = refl
+
+  store-kept : (p : Spot) → storeOf b dc p d .«store_len» ≡ b .«store_len»
+  store-kept Screen = refl
+  store-kept (Created i) = refl
+
+  stored-unpainted : Unpainted b (told (storeOf b dc p d) a)
+  stored-unpainted =
+      record {
+        paint = refl;
+        places = stored-places b dc d found;
+        sound = λ s. stored-sound b dc d s found same;
+        panel-len = panel-kept p;
+        store-len = store-kept p;
+      }
+
+select-surface : (d : Dc) (h : ℕ) (k : Kind) → selectIn d h k .surface ≡ d .surface
+select-surface d h Bitmap = refl
+select-surface d h (Brush c) = refl
+select-surface d h (Pen c) = refl
+select-surface d h Font = refl
+select-surface d h Other = refl
+
+pub select-unpainted : (b : GdiState) (dc h : ℕ) → Unpainted b (selectInto b dc h)
+unfolding selectInto
+select-unpainted b dc h = by (isOther (kindOf b h)) (dcOf b dc) refl
+  where
+    by : (t : Bool) (q : DcFound) → dcOf b dc ≡ q → Unpainted b (cond t (told b (Handle 0)) (selectAt b dc h (kindOf b h) q))
+    by true q e = told-unpainted b _
+    by false (Is p d) e = stored-unpainted b dc _ _ e (select-surface d h (kindOf b h))
+    by false Absent e = told-unpainted b _
+
+pub setting-unpainted : (old : Dc → Answer) (new : Dc → Dc) → ((d : Dc) → new d .surface ≡ d .surface) → (b : GdiState) (dc : ℕ) → Unpainted b (setting old new b dc)
+unfolding setting
+setting-unpainted old new same b dc = by (dcOf b dc) refl
+  where
+    by : (q : DcFound) → dcOf b dc ≡ q → Unpainted b (settingAt old new b dc q)
+    by (Is p d) e = stored-unpainted b dc _ _ e (same d)
+    by Absent e = told-unpainted b _

@@ -1,0 +1,168 @@
+-- The slots past the count stay vacant by every call. Assumes nothing.
+use mathlib.Core.Bool.{Bool, true, false, cond, _||_}
+use mathlib.Core.List.{List, _∷_}
+use mathlib.Core.Path.{_≡_, refl, _∙_, ap}
+use Prim.Native.Nat.{ℕ, suc, _+_, _-_, _≤_, _<_}
+use native.Mathlib.Decide.{decLt}
+use native.Mathlib.Omega.{arith}
+use lib.Dec.{eqb, leb, ltb}
+use lib.ListN.{length, getD, take, drop, getD-replicate}
+use lib.Seq.{getD-set-other, getD-append-add, getD-drop, length-take-le}
+use borrow.Author.Tests.{eqb-true}
+use Rattle.gdi.specs.declared.GdiState.{GdiState}
+use Rattle.gdi.specs.declared.GdiObject.{GdiObject}
+use Rattle.gdi.specs.declared.GdiObject.the-variants.{Dc as DcOf, Bitmap, Brush, Pen, Font}
+use Rattle.gdi.specs.declared.Slot.{Slot}
+use Rattle.gdi.specs.declared.Dc.{Dc}
+use Rattle.gdi.specs.declared.Found.{Found}
+use Rattle.gdi.specs.declared.Found.the-variants.{At, Nothing}
+use Rattle.gdi.specs.declared.Spot.{Spot}
+use Rattle.gdi.specs.declared.Spot.the-variants.{Screen, Created}
+use Rattle.gdi.specs.declared.DcFound.{DcFound}
+use Rattle.gdi.specs.declared.DcFound.the-variants.{Is, Absent}
+use Rattle.gdi.specs.Record.{noSlot, vacantSlot, bytesOf, storeOf}
+use Rattle.gdi.specs.Stock.{isStock}
+use Rattle.gdi.specs.Lookup.{slotAt, objectAt, findOf, dcAt, dcFound, dcOf, kindOf}
+use Rattle.gdi.proofs.Scan.{found-count}
+use Rattle.sound.specs.Sound.{used}
+use Rattle.sound.proofs.Sound.{Sound, parts, table-long}
+use Rattle.memory.proofs.Gap.{closed-freed, closed-past}
+use Rattle.ready.specs.Ready.{commonRefusal}
+use Rattle.ready.proofs.Ready.{ready}
+use Rattle.handles.specs.Handles.{inserted, added}
+use Rattle.removal.specs.Removal.{withoutAt}
+use Rattle.plan.specs.declared.Call.{Call}
+use Rattle.plan.specs.declared.Call.the-variants.{CreateMemoryDc, CreateCompatibleBitmap, CreateSolidBrush, CreatePen, CreateFont, Delete, Remove, SelectInto, SetTextColor, SetTextAlign, SetBkColor, SetBkMode}
+use Rattle.plan.specs.declared.Answer.{Answer}
+use Rattle.plan.specs.declared.Answer.the-variants.{Handle}
+use Rattle.plan.specs.Plan.{told, refuse}
+use Rattle.plan.specs.Create.{made, newBitmap, createOf, createBitmap}
+use Rattle.plan.specs.Delete.{goneAt, goes}
+use Rattle.plan.specs.Select.{isOther, selectAt, selectInto}
+use Rattle.plan.specs.Settings.{settingAt, setting}
+use Rattle.plan.specs.Calls.{act, plan}
+use Rattle.plan.specs.Vacant.{Vacant, StaysVacant}
+
+-- a slot behind the inserted one
+behind : (l : List Slot) (n : ℕ) (s : Slot) → n ≤ length l → (i : ℕ) → n < i → getD (inserted l n s) i noSlot ≡ getD l i noSlot
+behind l n s long i lt =
+    let h : length (take n l) ≡ n = length-take-le n l long in
+    let e : i ≡ length (take n l) + suc (i - suc n) = omega arith in
+    let f : suc n + (i - suc n) ≡ i = omega arith in
+    ap (λ (j : ℕ). getD (inserted l n s) j noSlot) e
+    ∙ getD-append-add (take n l) (s ∷ drop (suc n) l) (suc (i - suc n)) noSlot
+    ∙ getD-drop (suc n) l (i - suc n) noSlot
+    ∙ ap (λ (j : ℕ). getD l j noSlot) f
+
+module _ (b : GdiState) (sound : Sound b) (v : Vacant b) where
+  -- an object more
+  added-vacant : (o : GdiObject) → Vacant (added b o)
+  unfolding added
+  added-vacant o = record { vacant = λ i le lt. behind (b .objects) (b .count) _ (table-long sound) i (omega arith) ∙ v .vacant i (omega arith) lt }
+
+  create-vacant : (o : GdiObject) → Vacant (createOf b o .outcome .state)
+  unfolding createOf
+  create-vacant o = by (leb 256 (b .count)) (ltb (b .«store_len») (used b + bytesOf o))
+    where
+      by : (s t : Bool) → Vacant (cond s (refuse 5 b) (cond t (refuse 7 b) (made b o)) .outcome .state)
+      by true t = v
+      by false true = v
+      by false false = added-vacant o
+
+  bitmap-vacant : (w h : ℕ) → Vacant (createBitmap b w h .outcome .state)
+  unfolding createBitmap
+  bitmap-vacant w h = by (ltb 4096 w || ltb 4096 h)
+    where
+      by : (t : Bool) → Vacant (cond t (refuse 6 b) (createOf b (newBitmap w h)) .outcome .state)
+      by true = v
+      by false = create-vacant (newBitmap w h)
+
+  -- an object less
+  gone-vacant : (i : ℕ) → i < b .count → Vacant (withoutAt b i)
+  unfolding withoutAt
+  gone-vacant i lt = record { vacant = λ j le few. by j le few (decLt j (b .count)) }
+    where
+      fits : b .count ≤ length (b .objects)
+      fits = table-long sound
+
+      by : (j : ℕ) → b .count - 1 ≤ j → j < 256 → Dec (j < b .count) → slotAt (withoutAt b i) j ≡ vacantSlot
+      by j le few (yes c) = closed-freed vacantSlot (b .objects) i 1 (b .count) (omega arith) fits noSlot j le c
+      by j le few (no c) = closed-past vacantSlot (b .objects) i 1 (b .count) (omega arith) fits noSlot j (omega arith) ∙ v .vacant j (omega arith) few
+
+  goes-vacant : (stock : Answer) (gone : ℕ → Answer) (none : Answer) (h : ℕ) → Vacant (goes stock gone none b h .outcome .state)
+  unfolding goes
+  goes-vacant stock gone none h = by (isStock h) (findOf b h) refl
+    where
+      by : (t : Bool) (q : Found) → findOf b h ≡ q → Vacant (cond t (told b stock) (goneAt gone none b h q) .outcome .state)
+      by true q e = v
+      by false (At i) e = gone-vacant i (found-count b h e)
+      by false Nothing e = v
+
+  -- a DC changed
+  stored-vacant : (dc : ℕ) (p : Spot) (d₀ d : Dc) → dcOf b dc ≡ Is p d₀ → Vacant (storeOf b dc p d)
+  unfolding dcOf
+  stored-vacant dc Screen d₀ d e = record { vacant = v .vacant }
+  stored-vacant dc (Created i) d₀ d e = by-test (eqb dc 0xDEAD_0DC0) e
+    where
+      at : i < b .count → Vacant (storeOf b dc (Created i) d)
+      at lt = record { vacant = λ j le few. getD-set-other (b .objects) i j _ noSlot (λ q. absurd (omega (arith, q))) ∙ v .vacant j le few }
+
+      by-object : (k : ℕ) (o : GdiObject) → k < b .count → dcAt k o ≡ Is (Created i) d₀ → Vacant (storeOf b dc (Created i) d)
+      by-object k (DcOf x) lt f = let z : k ≡ i = cc in at (rw z at lt)
+      by-object k (Bitmap x) lt f = let z : _≡_ {A = ℕ} 0 1 = cc in absurd (omega arith)
+      by-object k (Brush x) lt f = let z : _≡_ {A = ℕ} 0 1 = cc in absurd (omega arith)
+      by-object k (Pen x) lt f = let z : _≡_ {A = ℕ} 0 1 = cc in absurd (omega arith)
+      by-object k (Font x) lt f = let z : _≡_ {A = ℕ} 0 1 = cc in absurd (omega arith)
+
+      by-found : (q : Found) → findOf b dc ≡ q → dcFound b q ≡ Is (Created i) d₀ → Vacant (storeOf b dc (Created i) d)
+      by-found (At k) g f = by-object k (objectAt b k) (found-count b dc g) f
+      by-found Nothing g f = let z : _≡_ {A = ℕ} 0 1 = cc in absurd (omega arith)
+
+      by-test : (t : Bool) → cond t (Is Screen (b .screen)) (dcFound b (findOf b dc)) ≡ Is (Created i) d₀ → Vacant (storeOf b dc (Created i) d)
+      by-test true f = let z : _≡_ {A = ℕ} 0 1 = cc in absurd (omega arith)
+      by-test false f = by-found (findOf b dc) refl f
+
+  select-vacant : (dc h : ℕ) → Vacant (selectInto b dc h .outcome .state)
+  unfolding selectInto
+  select-vacant dc h = by (isOther (kindOf b h)) (dcOf b dc) refl
+    where
+      by : (t : Bool) (q : DcFound) → dcOf b dc ≡ q → Vacant (cond t (told b (Handle 0)) (selectAt b dc h (kindOf b h) q) .outcome .state)
+      by true q e = v
+      by false (Is p d) e = stored-vacant dc p d _ e
+      by false Absent e = v
+
+  setting-vacant : (old : Dc → Answer) (new : Dc → Dc) (dc : ℕ) → Vacant (setting old new b dc .outcome .state)
+  unfolding setting
+  setting-vacant old new dc = by (dcOf b dc) refl
+    where
+      by : (q : DcFound) → dcOf b dc ≡ q → Vacant (settingAt old new b dc q .outcome .state)
+      by (Is p d) e = stored-vacant dc p d _ e
+      by Absent e = v
+
+  -- a line for each call
+  act-vacant : (c : Call) → Vacant (act c b .outcome .state)
+  unfolding act
+  act-vacant CreateMemoryDc = create-vacant _
+  act-vacant (CreateCompatibleBitmap w h) = bitmap-vacant w h
+  act-vacant (CreateSolidBrush c) = create-vacant _
+  act-vacant (CreatePen c w) = create-vacant _
+  act-vacant (CreateFont h) = create-vacant _
+  act-vacant (Delete h) = goes-vacant _ _ _ h
+  act-vacant (Remove h) = goes-vacant _ _ _ h
+  act-vacant (SelectInto dc h) = select-vacant dc h
+  act-vacant (SetTextColor dc c) = setting-vacant _ _ dc
+  act-vacant (SetTextAlign dc t) = setting-vacant _ _ dc
+  act-vacant (SetBkColor dc c) = setting-vacant _ _ dc
+  act-vacant (SetBkMode dc t) = setting-vacant _ _ dc
+
+pub stays-vacant : StaysVacant
+unfolding plan
+stays-vacant =
+    record {
+      first = λ n k w h. record { vacant = λ i le lt. getD-replicate 256 i vacantSlot noSlot lt };
+      stays = λ c b n k v. by c b n k v (eqb (commonRefusal b n k) 0) refl;
+    }
+  where
+    by : (c : Call) (b : GdiState) (n k : ℕ) → Vacant b → (t : Bool) → eqb (commonRefusal b n k) 0 ≡ t → Vacant (cond t (act c b) (refuse (commonRefusal b n k) b) .outcome .state)
+    by c b n k v true e = act-vacant b (parts b (ready b n k _ refl (eqb-true _ _ e) .sound)) v c
+    by c b n k v false e = v

@@ -1,0 +1,13 @@
+pub mod Answer
+pub mod Memories
+pub mod Paint
+pub mod Plan
+pub mod Create
+pub mod Delete
+pub mod Dc
+pub mod Select
+pub mod Settings
+pub mod Calls
+pub mod Open
+pub mod Refusal
+pub mod Vacant

@@ -1,0 +1,21 @@
+-- A plan: what a call does, made from the call, the record and the memories' lengths alone.
+use mathlib.Core.List.{List, []}
+use Prim.Native.Nat.{ℕ}
+use Rattle.gdi.specs.declared.GdiState.{GdiState}
+use Rattle.plan.specs.declared.Answer.{Answer}
+use Rattle.plan.specs.declared.Answer.the-variants.{Refused}
+use Rattle.plan.specs.declared.Outcome.{Outcome}
+use Rattle.plan.specs.Paint.{Paint}
+
+-- The record after with the answer, and the paints.
+pub record Plan : Type 0 where
+  pub outcome : Outcome
+  pub paint : List Paint
+
+-- no byte changes: the record and the answer
+abbrev pub told : GdiState → Answer → Plan
+told b a = record { outcome = record { state = b; answer = a }; paint = [] }
+
+-- a refusal changes no byte and no field
+abbrev pub refuse : ℕ → GdiState → Plan
+refuse n b = told b (Refused n)

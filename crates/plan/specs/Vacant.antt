@@ -1,0 +1,17 @@
+-- What the slots past the count hold.
+use mathlib.Core.Path.{_≡_}
+use Prim.Native.Nat.{ℕ, _≤_, _<_}
+use Rattle.gdi.specs.declared.GdiState.{GdiState}
+use Rattle.gdi.specs.Record.{vacantSlot, fresh}
+use Rattle.gdi.specs.Lookup.{slotAt}
+use Rattle.plan.specs.declared.Call.{Call}
+use Rattle.plan.specs.Calls.{plan}
+
+-- Every slot past the count is vacant.
+pub record Vacant (b : GdiState) : Type 0 where
+  pub vacant : (i : ℕ) → b .count ≤ i → i < 256 → slotAt b i ≡ vacantSlot
+
+-- It is so of a fresh record, and stays so by every call.
+pub record StaysVacant : Type 0 where
+  pub first : (panel-len store-len width height : ℕ) → Vacant (fresh panel-len store-len width height)
+  pub stays : (c : Call) (b : GdiState) (panel-len store-len : ℕ) → Vacant b → Vacant (plan c b panel-len store-len .outcome .state)

@@ -1,0 +1,44 @@
+-- Laws of the refusals that every call shares: when there is none, and its cases. Assumes nothing.
+use mathlib.Core.Bool.{Bool, true, false, cond, _&&_}
+use mathlib.Core.Path.{_≡_, refl, sym, _∙_}
+use Prim.Native.Nat.{ℕ}
+use native.Mathlib.Omega.{arith}
+use lib.Dec.{eqb}
+use borrow.Author.Tests.{eqb-true, eq-eqb, ne-eqb}
+use Rattle.gdi.specs.declared.GdiState.{GdiState}
+use Rattle.sound.specs.Sound.{isSound}
+use Rattle.ready.specs.Ready.{commonRefusal, Ready}
+
+-- the cases
+module _ (b : GdiState) (n k : ℕ) where
+  pub unsound : isSound b ≡ false → 9 ≡ commonRefusal b n k
+  unfolding commonRefusal
+  unsound e = rw e
+
+  module _ (e : isSound b ≡ true) where
+    pub other-panel : (n ≡ b .«panel_len» → ⊥) → 8 ≡ commonRefusal b n k
+    unfolding commonRefusal
+    other-panel ne = rw (e, ne-eqb _ _ ne)
+
+    pub other-store : n ≡ b .«panel_len» → (k ≡ b .«store_len» → ⊥) → 8 ≡ commonRefusal b n k
+    unfolding commonRefusal
+    other-store f ne = rw (e, eq-eqb _ _ f, ne-eqb _ _ ne)
+
+    pub none-other : n ≡ b .«panel_len» → k ≡ b .«store_len» → 0 ≡ commonRefusal b n k
+    unfolding commonRefusal
+    none-other f g = rw (e, eq-eqb _ _ f, eq-eqb _ _ g)
+
+-- calls are looked at exactly where no refusal is shared
+pub ready : (b : GdiState) (n k no₀ : ℕ) → no₀ ≡ commonRefusal b n k → no₀ ≡ 0 → Ready b n k
+unfolding commonRefusal
+ready b n k no₀ e z = by (isSound b) refl (eqb n (b .«panel_len»)) refl (eqb k (b .«store_len»)) refl (sym z ∙ e)
+  where
+    by : (s : Bool) → isSound b ≡ s → (p : Bool) → eqb n (b .«panel_len») ≡ p → (q : Bool) → eqb k (b .«store_len») ≡ q
+        → _≡_ {A = ℕ} 0 (cond s (cond (p && q) 0 8) 9) → Ready b n k
+    by true es true ep true eq i = record { sound = es; panel = eqb-true _ _ ep; store = eqb-true _ _ eq }
+    by true es true ep false eq i = absurd (omega arith)
+    by true es false ep q eq i = absurd (omega arith)
+    by false es p ep q eq i = absurd (omega arith)
+
+pub looks : {b : GdiState} {n k : ℕ} → Ready b n k → commonRefusal b n k ≡ 0
+looks {b} {n} {k} r = sym (none-other b n k (r .sound) (r .panel) (r .store))

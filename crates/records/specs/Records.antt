@@ -1,0 +1,23 @@
+-- What the reading functions hand each other, as far as their safety needs it: where in a stream of n bytes they came to.
+use Prim.Native.Nat.{ℕ, _≤_}
+use Rattle.records.specs.declared.read.Case.{Case}
+use Rattle.records.specs.declared.read.Slots.{Slots}
+use Rattle.records.specs.declared.read.SlotRead.{SlotRead}
+use Rattle.records.specs.declared.read.SlotRead.the-variants.{Bad, Is}
+
+-- a slot at `at` ends within the stream
+abbrev pub Within : (at n : ℕ) → SlotRead → Type 0
+Within at n Bad = Unit
+Within at n (Is s next) = (at ≤ next) × (next ≤ n)
+
+-- the same of a record's slots
+pub record Behind (at n : ℕ) (r : Slots) : Type 0 where
+  pub behind : at ≤ r .next
+  pub inside : r .next ≤ n
+
+-- the same of a record, whose memories can be lent
+pub record Taken (at n : ℕ) (c : Case) : Type 0 where
+  pub behind : at ≤ c .next
+  pub inside : c .next ≤ n
+  pub panel : c .«panel_lent» ≤ 65536
+  pub store : c .«store_lent» ≤ 65536

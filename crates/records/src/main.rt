@@ -1,0 +1,67 @@
+// Tries every call on bench records that are read as bytes (docs/record-cases.md), and prints what each record is refused
+// with. Every function is proved safe, and to end; what is printed is compared.
+mod read;
+mod same;
+mod tried;
+
+use libc::STDIN_FILENO;
+use tried::Told;
+
+// A longer stream is a bad one.
+const LONGEST: usize = 1_048_576;
+
+// `REC1`
+const MAGIC: u32 = 0x5245_4331;
+
+// Reads the stream, and one byte more if it is too long.
+fn main() {
+    let mut stream = [0u8; LONGEST + 1];
+    let n = io::read_full(STDIN_FILENO, &mut stream);
+    run(&stream[..n]);
+}
+
+// The whole of a stream.
+fn run(s: &[u8]) {
+    if begins_well(s) {
+        try_all(s);
+    } else {
+        lines::empty().text(b"bad script").print();
+    }
+}
+
+// Whether a stream has a length that is served and begins as it must.
+fn begins_well(s: &[u8]) -> bool {
+    if LONGEST < s.len() {
+        return false;
+    }
+    if s.len() < 4 {
+        return false;
+    }
+    bigendian::read_u32(s, 0) == MAGIC
+}
+
+// A line for each record; a bad one ends them.
+fn try_all(s: &[u8]) {
+    let mut at: usize = 4;
+    let mut i: u64 = 0;
+    while at < s.len() {
+        let case = read::record(s, at);
+        if case.bad {
+            lines::empty().text(b"bad record").print();
+            return;
+        }
+        print_told(i, tried::on_memories(case));
+        at = case.next;
+        i += 1;
+    }
+}
+
+// Prints the line of record i.
+fn print_told(i: u64, told: Told) {
+    let l = lines::empty().text(b"record ").decimal(i).space();
+    match told {
+        Told::Number(no) => l.decimal(no as u64).print(),
+        Told::Changed => l.text(b"changed").print(),
+        Told::Divided => l.text(b"divided").print(),
+    }
+}

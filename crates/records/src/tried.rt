@@ -1,0 +1,170 @@
+// Every call on a record, and what they are refused with.
+use crate::read;
+use crate::read::Case;
+use crate::same;
+ghost use Prim.Native.Nat.{_≤_};
+ghost use lib.ListN.{length};
+use color::Colorref;
+use gdi::GDI_HANDLE_BASE;
+use gdi::GDI_SCREEN_DC;
+use gdi::GdiState;
+use gdi::STOCK_GRAY_BRUSH;
+use plan::Answer;
+use plan::Call;
+use plan::Outcome;
+
+// As many calls there are.
+const CALLS: u8 = 12;
+
+// What all calls say of a record: 9, 8, or 0 for neither; that a refused one changed something; that they do not agree.
+pub enum Told {
+    Number(u32),
+    Changed,
+    Divided,
+}
+
+// The CRCs of two memories.
+struct Crcs {
+    panel: u32,
+    store: u32,
+}
+
+// What the calls say of a record, on memories of the lengths that are lent with it.
+pub fn on_memories(case: Case) -> Told
+    requires { ⌜ (case .«panel_lent» ≤ 65536) × (case .«store_lent» ≤ 65536) ⌝ }
+{
+    let mut panel = [0u8; read::MOST_LENT];
+    let mut store = [0u8; read::MOST_LENT];
+    on_parts(case, &mut panel, &mut store)
+}
+
+// The same on the first bytes of longer memories.
+fn on_parts(case: Case, panel: &mut [u8], store: &mut [u8]) -> Told
+    requires { ⌜ (case .«panel_lent» ≤ length (now panel)) × (case .«store_lent» ≤ length (now store)) ⌝ }
+{
+    let panel_lent = case.panel_lent;
+    let store_lent = case.store_lent;
+    by_all(
+        case.state,
+        &mut panel[0..panel_lent],
+        &mut store[0..store_lent],
+    )
+}
+
+// What all calls say, each on the record as it is and on fresh memories.
+fn by_all(state: GdiState, panel: &mut [u8], store: &mut [u8]) -> Told {
+    fill(panel);
+    fill(store);
+    let was = crcs_of(panel, store);
+    let first = by_one(state, 0, was, panel, store);
+    let Told::Number(no) = first else {
+        return first;
+    };
+    by_others(state, no, was, panel, store)
+}
+
+// What all calls say if the first says this number.
+fn by_others(state: GdiState, no: u32, was: Crcs, panel: &mut [u8], store: &mut [u8]) -> Told {
+    for k in 1u8..CALLS {
+        let next = by_one(state, k, was, panel, store);
+        let Told::Number(other) = next else {
+            return next;
+        };
+        if other != no {
+            return Told::Divided;
+        }
+    }
+    Told::Number(no)
+}
+
+// What call k says. The memories, filled, have these CRCs.
+fn by_one(state: GdiState, k: u8, was: Crcs, panel: &mut [u8], store: &mut [u8]) -> Told {
+    fill(panel);
+    fill(store);
+    let outcome = perform::perform(state, call(k), panel, store);
+    let no = common_refusal(outcome);
+    if no == 0 {
+        return Told::Number(0);
+    }
+    if same_crcs(was, crcs_of(panel, store)) {
+        if same::records(state, outcome.state) {
+            return Told::Number(no);
+        }
+    }
+    Told::Changed
+}
+
+// The CRCs of the memories.
+fn crcs_of(panel: &[u8], store: &[u8]) -> Crcs {
+    Crcs {
+        panel: crc32::crc32(panel),
+        store: crc32::crc32(store),
+    }
+}
+
+// Whether both memories have the same CRCs as before.
+fn same_crcs(a: Crcs, b: Crcs) -> bool {
+    if a.panel != b.panel {
+        return false;
+    }
+    a.store == b.store
+}
+
+// The number with which all calls are to refuse the record, 0 if this one does not.
+fn common_refusal(outcome: Outcome) -> u32 {
+    let a = outcome.answer;
+    match a {
+        Answer::Refused(no) => shared(no),
+        _ => 0,
+    }
+}
+
+// The number of a refusal if it is one that all calls share, else 0.
+fn shared(no: u32) -> u32 {
+    match no {
+        8 | 9 => no,
+        _ => 0,
+    }
+}
+
+// Fills a memory with bytes that differ.
+fn fill(mem: &mut [u8]) {
+    for k in 0..mem.len() {
+        mem[k] = (k % 251) as u8;
+    }
+}
+
+// Call k of the twelve.
+fn call(k: u8) -> Call {
+    let color = Colorref(0x0012_3456);
+    match k {
+        0 => Call::CreateMemoryDc,
+        1 => Call::CreateCompatibleBitmap {
+            width: 1,
+            height: 1,
+        },
+        2 => Call::CreateSolidBrush(color),
+        3 => Call::CreatePen { color, width: 1 },
+        4 => Call::CreateFont(-12),
+        5 => Call::Delete(GDI_HANDLE_BASE),
+        6 => Call::Remove(GDI_HANDLE_BASE),
+        _ => dc_call(k, GDI_SCREEN_DC, color),
+    }
+}
+
+// Call k of the twelve, from the eighth on: those on a DC.
+fn dc_call(k: u8, dc: u32, color: Colorref) -> Call {
+    match k {
+        7 => Call::SelectInto {
+            dc,
+            object: STOCK_GRAY_BRUSH,
+        },
+        8 => Call::SetTextColor { dc, color },
+        9 => Call::SetTextAlign { dc, align: 6 },
+        10 => Call::SetBkColor { dc, color },
+        _ => Call::SetBkMode {
+            dc,
+            transparent: true,
+        },
+    }
+}

@@ -1,0 +1,61 @@
+// Performs a call script (docs/call-script.md) on the proved library, and prints what happened. What a call does is for the
+// library to prove; here every function is proved safe, and to end.
+mod answer;
+mod object;
+mod session;
+mod state;
+
+ghost use Prim.Native.Nat.{_≤_};
+use libc::STDIN_FILENO;
+use script::Header;
+use script::HeaderRead;
+
+// A longer script is a bad one.
+const LONGEST: usize = 1_048_576;
+
+// The longest panel memory that is served.
+const MOST_PANEL: usize = 1_048_576;
+
+// The longest store that is served.
+const MOST_STORE: usize = 4_194_304;
+
+// Reads the script, and one byte more if it is too long.
+fn main() {
+    let mut script = [0u8; LONGEST + 1];
+    let n = io::read_full(STDIN_FILENO, &mut script);
+    run(&script[..n]);
+}
+
+// The whole of a script.
+fn run(s: &[u8]) {
+    if LONGEST < s.len() {
+        lines::empty().text(b"bad script").print();
+        return;
+    }
+    match script::read_header(s) {
+        HeaderRead::Bad => lines::empty().text(b"bad script").print(),
+        HeaderRead::Is(h) => serve(s, h),
+    }
+}
+
+// A script with this header.
+fn serve(s: &[u8], h: Header) {
+    if MOST_PANEL < (h.panel_len as usize) {
+        lines::empty().text(b"too large").print();
+        return;
+    }
+    if MOST_STORE < (h.store_len as usize) {
+        lines::empty().text(b"too large").print();
+        return;
+    }
+    lend(s, h);
+}
+
+// Lends memories of the lengths that the header asks for.
+fn lend(s: &[u8], h: Header)
+    requires { ⌜ (h .«panel_len» ≤ 1048576) × (h .«store_len» ≤ 4194304) ⌝ }
+{
+    let mut panel = [0u8; MOST_PANEL];
+    let mut store = [0u8; MOST_STORE];
+    session::on_parts(s, h, &mut panel, &mut store);
+}

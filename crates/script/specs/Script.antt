@@ -1,0 +1,56 @@
+-- A call script's bytes as a header and calls (docs/call-script.md). Numbers are most significant byte first.
+use mathlib.Core.Bool.{Bool, true, false, cond, _&&_}
+use mathlib.Core.List.{List}
+use mathlib.Core.Path.{_≡_}
+use Prim.Native.Nat.{ℕ, _+_, _≤_, _<_}
+use lib.Dec.{eqb, leb, ltb}
+use lib.ListN.{getD, length}
+use Rattle.bigendian.specs.BigEndian.{be32, signed32}
+use Rattle.plan.specs.declared.Call.{Call}
+use Rattle.plan.specs.declared.Call.the-variants.{CreateMemoryDc, CreateCompatibleBitmap, CreateSolidBrush, CreatePen, CreateFont, Delete, Remove, SelectInto, SetTextColor, SetTextAlign, SetBkColor, SetBkMode}
+use Rattle.script.specs.declared.HeaderRead.{HeaderRead}
+use Rattle.script.specs.declared.HeaderRead.the-variants.{Bad as BadHeader, Is as IsHeader}
+use Rattle.script.specs.declared.CallRead.{CallRead}
+use Rattle.script.specs.declared.CallRead.the-variants.{End, Bad, Is}
+
+-- 21 bytes: `GDI1`, panel memory length, store length, panel width, panel height, fill byte
+unfoldable pub headerOf : List ℕ → HeaderRead
+headerOf s =
+    cond (leb 21 (length s) && eqb (be32 s 0) 0x47444931)
+    (IsHeader (record { «panel_len» = be32 s 4; «store_len» = be32 s 8; width = be32 s 12; height = be32 s 16; fill = getD s 20 0 }))
+    BadHeader
+
+-- a call whose n bytes of arguments start at p; one that is cut short is bad
+abbrev pub sized : List ℕ → (p n : ℕ) → Call → CallRead
+sized s p n c = cond (leb (p + n) (length s)) (Is c (p + n)) Bad
+
+-- the call of byte k, whose arguments start at p: 32 bits each; a background mode is 0 or 1
+unfoldable pub callOf : (k : ℕ) → List ℕ → (p : ℕ) → CallRead
+callOf k s p =
+    cond (eqb k 1) (sized s p 0 CreateMemoryDc) (
+    cond (eqb k 2) (sized s p 8 (CreateCompatibleBitmap (be32 s p) (be32 s (p + 4)))) (
+    cond (eqb k 3) (sized s p 4 (CreateSolidBrush (record { 0 = be32 s p }))) (
+    cond (eqb k 4) (sized s p 8 (CreatePen (record { 0 = be32 s p }) (be32 s (p + 4)))) (
+    cond (eqb k 5) (sized s p 4 (CreateFont (signed32 (be32 s p)))) (
+    cond (eqb k 6) (sized s p 4 (Delete (be32 s p))) (
+    cond (eqb k 7) (sized s p 4 (Remove (be32 s p))) (
+    cond (eqb k 8) (sized s p 8 (SelectInto (be32 s p) (be32 s (p + 4)))) (
+    cond (eqb k 9) (sized s p 8 (SetTextColor (be32 s p) (record { 0 = be32 s (p + 4) }))) (
+    cond (eqb k 10) (sized s p 8 (SetTextAlign (be32 s p) (be32 s (p + 4)))) (
+    cond (eqb k 11) (sized s p 8 (SetBkColor (be32 s p) (record { 0 = be32 s (p + 4) }))) (
+    cond (eqb k 12 && leb (be32 s (p + 4)) 1) (sized s p 8 (SetBkMode (be32 s p) (eqb (be32 s (p + 4)) 1)))
+    Bad)))))))))))
+
+-- what stands at a byte of the script: its end, or a call
+unfoldable pub callAt : List ℕ → ℕ → CallRead
+callAt s at = cond (ltb at (length s)) (callOf (getD s at 0) s (at + 1)) End
+
+-- a call that was read ends behind its start and within the script
+abbrev pub Behind : List ℕ → ℕ → CallRead → Type 0
+Behind s at End = Unit
+Behind s at Bad = Unit
+Behind s at (Is c next) = (at < next) × (next ≤ length s)
+
+pub record Read (s : List ℕ) (at : ℕ) (r : CallRead) : Type 0 where
+  pub same : r ≡ callAt s at
+  pub behind : Behind s at r

@@ -1,0 +1,40 @@
+-- The cases of a selection: no object to select, no DC, and the object tied into the DC. Assumes nothing.
+use mathlib.Core.Bool.{false}
+use mathlib.Core.List.{[], _∷_}
+use mathlib.Core.Path.{_≡_, refl, sym, _∙_}
+use Prim.Native.Nat.{ℕ}
+use types.Run.{OneOf, miss}
+use denote.Enum.Declared.{tagOf}
+use Rattle.gdi.proofs.Kind.{the-type}
+use Rattle.gdi.specs.declared.Dc.{Dc}
+use Rattle.gdi.specs.declared.DcFound.the-variants.{Is, Absent}
+use Rattle.gdi.specs.declared.GdiState.{GdiState}
+use Rattle.gdi.specs.declared.Kind.{Kind}
+use Rattle.gdi.specs.declared.Kind.the-variants.{Bitmap, Brush, Pen, Font, Other}
+use Rattle.gdi.specs.declared.Spot.{Spot}
+use Rattle.gdi.specs.Lookup.{dcOf, kindOf}
+use Rattle.gdi.specs.Record.{storeOf}
+use Rattle.plan.specs.declared.Answer.the-variants.{Handle}
+use Rattle.plan.specs.Select.{isOther, selectIn, selectedOf, selectInto}
+
+-- a kind whose tag is not the last can be selected
+not-other : (k : Kind) → OneOf (0 ∷ 1 ∷ 2 ∷ 3 ∷ []) (tagOf the-type k) → isOther k ≡ false
+not-other Bitmap t = refl
+not-other (Brush c) t = refl
+not-other (Pen c) t = refl
+not-other Font t = refl
+not-other Other t = absurd (miss (0 ∷ 1 ∷ 2 ∷ 3 ∷ []) 4 tt t)
+
+module _ (b : GdiState) (dc h : ℕ) {k : Kind} (f : k ≡ kindOf b h) where
+  pub select-other : k ≡ Other → record { state = b; answer = Handle 0 } ≡ selectInto b dc h .outcome
+  unfolding selectInto
+  select-other e = rw (sym f ∙ e)
+
+  module _ (t : OneOf (0 ∷ 1 ∷ 2 ∷ 3 ∷ []) (tagOf the-type k)) where
+    pub select-no-dc : dcOf b dc ≡ Absent → record { state = b; answer = Handle 0 } ≡ selectInto b dc h .outcome
+    unfolding selectInto
+    select-no-dc e = rw (← f, not-other k t, e)
+
+    pub select-tied : {p : Spot} {d d′ : Dc} {old : ℕ} {after : GdiState} → dcOf b dc ≡ Is p d → old ≡ selectedOf d k → d′ ≡ selectIn d h k → after ≡ storeOf b dc p d′ → record { state = after; answer = Handle old } ≡ selectInto b dc h .outcome
+    unfolding selectInto
+    select-tied e o i s = rw (← f, not-other k t, e, s, i, o)

@@ -1,0 +1,75 @@
+-- When a bench record is sound.
+use mathlib.Core.Bool.{Bool, true, false, not, _&&_}
+use mathlib.Core.List.{List}
+use Prim.Native.Nat.{ℕ, suc, _+_, _-_}
+use lib.Dec.{eqb, leb, ltb}
+use Rattle.laws.specs.Test.{allBelow}
+use Rattle.laws.specs.Sum.{sumBelow}
+use Rattle.surface.specs.Refusal.{side}
+use Rattle.gdi.specs.declared.DcSurface.{DcSurface}
+use Rattle.gdi.specs.declared.DcSurface.the-variants.{Screen, Memory}
+use Rattle.gdi.specs.declared.GdiObject.{GdiObject}
+use Rattle.gdi.specs.declared.GdiObject.the-variants.{Dc as DcOf, Bitmap, Brush, Pen, Font}
+use Rattle.gdi.specs.declared.Slot.{Slot}
+use Rattle.gdi.specs.declared.GdiState.{GdiState}
+use Rattle.gdi.specs.Record.{size, bytesOf}
+use Rattle.gdi.specs.Stock.{isStock}
+use Rattle.gdi.specs.Lookup.{slotAt, handleAt, objectAt}
+
+-- the most bytes that a memory may have
+abbrev pub limit : ℕ
+limit = 33554432
+
+abbrev pub isMemory : DcSurface → Bool
+isMemory Screen = false
+isMemory Memory = true
+
+-- every created DC is a memory DC, bitmap sides are 1 to 4,096
+abbrev pub objectFits : GdiObject → Bool
+objectFits (DcOf d) = isMemory (d .surface)
+objectFits (Bitmap m) = side (m .width) && side (m .height)
+objectFits (Brush x) = true
+objectFits (Pen x) = true
+objectFits (Font x) = true
+
+-- the same, and a handle that is neither 0 nor stock
+abbrev pub slotFits : Slot → Bool
+slotFits s = not (eqb (s .handle) 0) && (not (isStock (s .handle)) && objectFits (s .object))
+
+abbrev pub slotsFit : GdiState → Bool
+slotsFit b = allBelow (b .count) (λ i. slotFits (slotAt b i))
+
+-- none of the first n slots has the handle h
+abbrev pub absent : List Slot → (n h : ℕ) → Bool
+absent l n h = allBelow n (λ j. not (eqb (handleAt l j) h))
+
+-- the handles of the first n slots differ: none before a slot has its handle
+abbrev pub distinct : List Slot → ℕ → Bool
+distinct l n = allBelow n (λ k. absent l k (handleAt l k))
+
+-- each of the first n handles is above the one before it, so that they differ: the quick test
+abbrev pub ascending : List Slot → ℕ → Bool
+ascending l n = allBelow (n - 1) (λ k. ltb (handleAt l k) (handleAt l (suc k)))
+
+-- the bytes of the pixels of the first n created objects, with the stock bitmap's 2
+abbrev pub startOf : GdiState → ℕ → ℕ
+startOf b n = 2 + sumBelow n (λ i. bytesOf (objectAt b i))
+
+-- the bytes of the store that hold pixels
+abbrev pub used : GdiState → ℕ
+used b = startOf b (b .count)
+
+-- A record is sound if its lengths are at most the limit, its object count is at most 256, every created DC is a memory DC,
+-- panel and bitmap sides are 1 to 4,096, handles differ and are neither 0 nor stock, 2·w·h fits the panel memory, and 2 + the
+-- sum of 2·w·h over created bitmaps fits the store.
+unfoldable pub isSound : GdiState → Bool
+isSound b =
+    leb (b .«panel_len») limit
+    && (leb (b .«store_len») limit
+    && (leb (b .count) 256
+    && (side (b .width)
+    && (side (b .height)
+    && (leb (size (b .width) (b .height)) (b .«panel_len»)
+    && (slotsFit b
+    && (distinct (b .objects) (b .count)
+    && leb (used b) (b .«store_len»))))))))
