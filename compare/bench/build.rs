@@ -1,9 +1,7 @@
-//! Says where the static libraries are that `rt staticlib` writes.
+//! Says where the static library is that `rt staticlib surface_ffi` writes.
 
 fn main() {
     let folder = format!("{}/../../target/staticlib", env!("CARGO_MANIFEST_DIR"));
     println!("cargo:rustc-link-search=native={folder}");
-    for library in ["surface_ffi", "calls_bench"] {
-        println!("cargo:rerun-if-changed={folder}/lib{library}.a");
-    }
+    println!("cargo:rerun-if-changed={folder}/libsurface_ffi.a");
 }

@@ -1,5 +1,7 @@
 //! The cases of docs/primitive-cases.md, as values and as bytes.
 
+use pocket_kernel::gdi::rop3::SRCCOPY;
+
 use crate::argument::Units;
 use crate::table::table;
 
@@ -54,6 +56,18 @@ table! {
 }
 
 impl Case {
+    /// A copy between two surfaces: their sides, where to and where from, and the
+    /// box's sides.
+    pub fn copy_between(order: u8, sides: [u16; 4], at: [i32; 4], [w, h]: [i32; 2]) -> Case {
+        let [width, height, src_w, src_h] = sides;
+        let [dx, dy, sx, sy] = at;
+        let (code, pattern) = (SRCCOPY, 0);
+        #[rustfmt::skip]
+        let case =
+            Case::BlitBetween { order, width, height, src_w, src_h, dx, dy, sx, sy, w, h, code, pattern };
+        case
+    }
+
     /// Takes a case off the front of a script; `None` if it is a bad one.
     pub fn read(script: &mut &[u8]) -> Option<Case> {
         let case = Case::read_any(script)?;

@@ -94,23 +94,7 @@ fn sources(cases: &mut Vec<Case>) {
 /// Blits from the surface to itself, and from one surface to another.
 fn moves(cases: &mut Vec<Case>) {
     let between = |order, [dx, dy]: [i32; 2], [sx, sy]: [i32; 2]| {
-        let (width, height, src_w, src_h, w, h) = (4, 3, 2, 5, 2, 2);
-        let (code, pattern) = (SRCCOPY, 0);
-        Case::BlitBetween {
-            order,
-            width,
-            height,
-            src_w,
-            src_h,
-            dx,
-            dy,
-            sx,
-            sy,
-            w,
-            h,
-            code,
-            pattern,
-        }
+        Case::copy_between(order, [4, 3, 2, 5], [dx, dy, sx, sy], [2, 2])
     };
     cases.extend([
         // In one row: right, left, onto itself, nothing.

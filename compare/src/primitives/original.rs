@@ -291,25 +291,8 @@ mod tests {
     fn a_blit_between_two_surfaces_goes_either_way() {
         for (order, after) in [(0, [3, 2, 3]), (1, [1, 2, 1])] {
             let mut original = with_surface(3, 1, &[1, 2, 3]);
-            let (dx, dy, sx, sy, w, h) = (0, 0, 0, 0, 1, 1);
-            let (width, height, src_w, src_h) =
-                if order == 0 { (2, 1, 1, 1) } else { (1, 1, 2, 1) };
-            let (code, pattern) = (SRCCOPY, 0);
-            let case = Case::BlitBetween {
-                order,
-                width,
-                height,
-                src_w,
-                src_h,
-                dx,
-                dy,
-                sx,
-                sy,
-                w,
-                h,
-                code,
-                pattern,
-            };
+            let sides = if order == 0 { [2, 1, 1, 1] } else { [1, 1, 2, 1] };
+            let case = Case::copy_between(order, sides, [0; 4], [1, 1]);
             assert!(original.answer(&case).is_ok_and(|outcome| outcome.marked));
             assert_eq!(words(&original), after);
         }

@@ -114,23 +114,8 @@ mod tests {
         bytes(Case::Lend { width: u32::MAX, height: 0, len })
     }
 
-    fn between(order: u8, [width, height, src_w, src_h]: [u16; 4]) -> Vec<u8> {
-        let (dx, dy, sx, sy, w, h, code, pattern) = (0, 0, 0, 0, 0, 0, 0, 0);
-        bytes(Case::BlitBetween {
-            order,
-            width,
-            height,
-            src_w,
-            src_h,
-            dx,
-            dy,
-            sx,
-            sy,
-            w,
-            h,
-            code,
-            pattern,
-        })
+    fn between(order: u8, sides: [u16; 4]) -> Vec<u8> {
+        bytes(Case::copy_between(order, sides, [0; 4], [0; 2]))
     }
 
     #[test]

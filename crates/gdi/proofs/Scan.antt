@@ -1,7 +1,7 @@
 -- Laws of the scan for a handle: its steps, and what it finds. Assumes nothing.
 use mathlib.Core.Bool.{Bool, true, false, cond}
 use mathlib.Core.List.{List}
-use mathlib.Core.Path.{_≡_, refl}
+use mathlib.Core.Path.{_≡_, refl, sym, _∙_, ap}
 use Prim.Native.Nat.{ℕ, zero, suc, _+_, _-_, _<_, _≤_}
 use native.Mathlib.Numerals.{add-one}
 use native.Mathlib.Omega.{arith}
@@ -63,22 +63,33 @@ found-count b h e = omega (arith, scan-below (b .objects) h 0 (b .count) e)
 pub found-below : (b : GdiState) (h : ℕ) {i : ℕ} → b .count ≤ 256 → findOf b h ≡ At i → i < 256
 found-below b h le e = omega (arith, found-count b h e)
 
--- the spot of a DC that is found is in the table
-pub dc-within : (b : GdiState) (h : ℕ) {p : Spot} {d : Dc} → dcOf b h ≡ Is p d → b .count ≤ 256 → within p ≡ true
+-- a created DC stands in the slot of its handle
+pub dc-found : (b : GdiState) (h : ℕ) {i : ℕ} {d : Dc} → dcOf b h ≡ Is (Created i) d → (findOf b h ≡ At i) × (objectAt b i ≡ DcOf d)
 unfolding dcOf
-dc-within b h {p} {d} e le = by-test (eqb h 0xDEAD_0DC0) e
+dc-found b h {i} {d} e = by-test (eqb h 0xDEAD_0DC0) e
   where
-    by-object : (i : ℕ) (o : GdiObject) → i < 256 → dcAt i o ≡ Is p d → within p ≡ true
-    by-object i (DcOf x) lt f = let z : p ≡ Created i = cc in rw (z, lt-ltb _ _ lt)
-    by-object i (Bitmap x) lt f = let z : _≡_ {A = ℕ} 0 1 = cc in absurd (omega arith)
-    by-object i (Brush x) lt f = let z : _≡_ {A = ℕ} 0 1 = cc in absurd (omega arith)
-    by-object i (Pen x) lt f = let z : _≡_ {A = ℕ} 0 1 = cc in absurd (omega arith)
-    by-object i (Font x) lt f = let z : _≡_ {A = ℕ} 0 1 = cc in absurd (omega arith)
+    by-object : (j : ℕ) (o : GdiObject) → dcAt j o ≡ Is (Created i) d → (j ≡ i) × (o ≡ DcOf d)
+    by-object j (DcOf x) f = (cc, cc)
+    by-object j (Bitmap x) f = let z : _≡_ {A = ℕ} 0 1 = cc in absurd (omega arith)
+    by-object j (Brush x) f = let z : _≡_ {A = ℕ} 0 1 = cc in absurd (omega arith)
+    by-object j (Pen x) f = let z : _≡_ {A = ℕ} 0 1 = cc in absurd (omega arith)
+    by-object j (Font x) f = let z : _≡_ {A = ℕ} 0 1 = cc in absurd (omega arith)
 
-    by-found : (q : Found) → findOf b h ≡ q → dcFound b q ≡ Is p d → within p ≡ true
-    by-found (At i) g f = by-object i (objectAt b i) (found-below b h le g) f
+    by-found : (q : Found) → findOf b h ≡ q → dcFound b q ≡ Is (Created i) d → (findOf b h ≡ At i) × (objectAt b i ≡ DcOf d)
+    by-found (At j) g f =
+        let r = by-object j (objectAt b j) f in
+        (g ∙ ap At (r .0), ap (objectAt b) (sym (r .0)) ∙ r .1)
     by-found Nothing g f = let z : _≡_ {A = ℕ} 0 1 = cc in absurd (omega arith)
 
-    by-test : (t : Bool) → cond t (Is Screen (b .screen)) (dcFound b (findOf b h)) ≡ Is p d → within p ≡ true
-    by-test true f = let z : p ≡ Screen = cc in rw z
+    by-test : (t : Bool) → cond t (Is Screen (b .screen)) (dcFound b (findOf b h)) ≡ Is (Created i) d
+        → (findOf b h ≡ At i) × (objectAt b i ≡ DcOf d)
+    by-test true f = let z : _≡_ {A = ℕ} 0 1 = cc in absurd (omega arith)
     by-test false f = by-found (findOf b h) refl f
+
+-- the spot of a DC that is found is in the table
+pub dc-within : (b : GdiState) (h : ℕ) {p : Spot} {d : Dc} → dcOf b h ≡ Is p d → b .count ≤ 256 → within p ≡ true
+dc-within b h {p} {d} e le = by p e
+  where
+    by : (q : Spot) → dcOf b h ≡ Is q d → within q ≡ true
+    by Screen f = refl
+    by (Created i) f = lt-ltb _ _ (found-below b h le (dc-found b h f .0))

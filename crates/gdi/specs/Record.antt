@@ -28,7 +28,7 @@ bytesOf (Pen x) = 0
 bytesOf (Font x) = 0
 
 -- the record of `Dc::default`, with the given surface
-abbrev dcOn : DcSurface → Dc
+abbrev pub dcOn : DcSurface → Dc
 dcOn s =
     record {
       surface = s;

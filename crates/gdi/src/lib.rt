@@ -2,7 +2,7 @@
 ghost use mathlib.Core.Path.{_≡_};
 ghost use mathlib.Core.Bool.{true};
 ghost use Prim.Native.Nat.{_≤_};
-ghost use Rattle.gdi.specs.Record.{defaultDc, screenDc, vacantSlot, fresh, within, storeOf};
+ghost use Rattle.gdi.specs.Record.{dcOn, defaultDc, screenDc, vacantSlot, fresh, within, storeOf};
 ghost use Rattle.gdi.specs.Stock.{isStock, stockKind};
 ghost use Rattle.gdi.specs.Lookup.{findOf, dcOf, kindAt, kindOf};
 use color::Colorref;
@@ -161,12 +161,12 @@ pub fn is_stock_handle(handle: u32) -> bool
     }
 }
 
-// The record of a new memory DC.
-pub fn default_dc() -> Dc
-    ensures { λ r. ⌜ r ≡ defaultDc ⌝ }
+// The record of `Dc::default`, with this surface.
+pub fn dc_on(surface: DcSurface) -> Dc
+    ensures { λ r. ⌜ r ≡ dcOn surface ⌝ }
 {
     Dc {
-        surface: DcSurface::Memory,
+        surface: surface,
         selected_bitmap: SelectedBitmap::Unset,
         selected_brush: STOCK_WHITE_BRUSH,
         selected_pen: STOCK_BLACK_PEN,
@@ -180,23 +180,18 @@ pub fn default_dc() -> Dc
     }
 }
 
+// The record of a new memory DC.
+pub fn default_dc() -> Dc
+    ensures { λ r. ⌜ r ≡ defaultDc ⌝ }
+{
+    dc_on(DcSurface::Memory)
+}
+
 // The record of the screen DC of a fresh bench.
 pub fn screen_dc() -> Dc
     ensures { λ r. ⌜ r ≡ screenDc ⌝ }
 {
-    Dc {
-        surface: DcSurface::Screen,
-        selected_bitmap: SelectedBitmap::Unset,
-        selected_brush: STOCK_WHITE_BRUSH,
-        selected_pen: STOCK_BLACK_PEN,
-        selected_font: STOCK_SYSTEM_FONT,
-        brush_color: Colorref(0x00ff_ffff),
-        pen_color: Colorref(0),
-        text_color: Colorref(0),
-        text_align: 0,
-        bk_color: Colorref(0x00ff_ffff),
-        bk_transparent: false,
-    }
+    dc_on(DcSurface::Screen)
 }
 
 // A slot that no object has.

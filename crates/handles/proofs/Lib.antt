@@ -2,3 +2,4 @@ pub mod Search
 pub mod Pigeon
 pub mod Added
 pub mod Examples
+pub mod Absent

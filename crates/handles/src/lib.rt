@@ -3,6 +3,7 @@ ghost use mathlib.Core.Path.{_≡_};
 ghost use Prim.Native.Nat.{_<_, _≤_};
 ghost use Rattle.sound.specs.Sound.{absent};
 ghost use Rattle.handles.specs.Handles.{free, newHandle, addedAs};
+use gdi::Found;
 use gdi::GdiObject;
 use gdi::GdiState;
 use gdi::Slot;
@@ -15,15 +16,10 @@ pub fn is_absent(state: GdiState, handle: u32) -> bool
     requires { ⌜ state .count ≤ 256 ⌝ }
     ensures { λ r. ⌜ r ≡ absent (state .objects) (state .count) handle ⌝ }
 {
-    let n = state.count;
-    let mut i: usize = 0;
-    while i < n {
-        if state.objects[i].handle == handle {
-            return false;
-        }
-        i += 1;
+    match gdi::find(state, handle) {
+        Found::At(_) => false,
+        Found::Nothing => true,
     }
-    true
 }
 
 // Whether a handle is not 0, stock or live.

@@ -3,3 +3,4 @@ pub mod Interval
 pub mod Integer
 pub mod Machine
 pub mod Sum
+pub mod Arrays

@@ -4,3 +4,4 @@ pub mod Blanks
 pub mod Closed
 pub mod Safe
 pub mod Noninterference
+pub mod Performed

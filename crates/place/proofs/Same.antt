@@ -1,27 +1,23 @@
 -- A record whose slots keep handle, frame and size has its surfaces in the same places, so one with a changed DC. Assumes nothing.
-use mathlib.Core.Bool.{Bool, true, false, not, cond}
+use mathlib.Core.Bool.{true, not, cond}
 use mathlib.Core.List.{List, [], _∷_}
 use mathlib.Core.Path.{_≡_, refl, sym, _∙_, ap}
 use Prim.Native.Nat.{ℕ, zero, suc, _+_}
-use native.Mathlib.Omega.{arith}
 use lib.Dec.{eqb}
 use lib.ListN.{getD, set}
 use Rattle.laws.proofs.Test.{all-same}
 use Rattle.laws.proofs.Sum.{sum-same}
 use Rattle.gdi.specs.declared.Dc.{Dc}
 use Rattle.gdi.specs.declared.DcFound.the-variants.{Is}
-use Rattle.gdi.specs.declared.Found.{Found}
-use Rattle.gdi.specs.declared.Found.the-variants.{At as FoundAt, Nothing}
-use Rattle.gdi.specs.declared.GdiObject.{GdiObject}
-use Rattle.gdi.specs.declared.GdiObject.the-variants.{Dc as DcOf, Bitmap as BitmapOf, Brush, Pen, Font}
+use Rattle.gdi.specs.declared.GdiObject.the-variants.{Dc as DcOf}
 use Rattle.gdi.specs.declared.GdiState.{GdiState}
 use Rattle.gdi.specs.declared.Slot.{Slot}
 use Rattle.gdi.specs.declared.Spot.{Spot}
 use Rattle.gdi.specs.declared.Spot.the-variants.{Screen, Created}
 use Rattle.gdi.specs.Record.{noSlot, bytesOf, withObjects, storeOf}
 use Rattle.gdi.specs.Stock.{stockBitmap}
-use Rattle.gdi.specs.Lookup.{slotAt, handleAt, objectAt, findOf, dcAt, dcFound, dcOf}
-use Rattle.gdi.proofs.Scan.{scan-handle}
+use Rattle.gdi.specs.Lookup.{slotAt, handleAt, objectAt, dcOf}
+use Rattle.gdi.proofs.Scan.{scan-handle, dc-found}
 use Rattle.sound.specs.Sound.{objectFits, slotFits, absent, distinct, isSound}
 use Rattle.place.specs.declared.Memory.the-variants.{Store}
 use Rattle.place.specs.declared.Place.{Place}
@@ -86,29 +82,6 @@ module _ (b : GdiState) (next : ℕ) (l : List Slot) (kept : (j : ℕ) → Kept 
         same-distinct l (b .objects) kept (b .count),
         sum-same (b .count) (λ i. bytesOf (getD l i noSlot .object)) (λ i. bytesOf (objectAt b i)) (λ i lt. kept i .bytes),
       )
-
--- a created DC stands in the slot of its handle
-pub dc-found : (b : GdiState) (h : ℕ) {i : ℕ} {d : Dc} → dcOf b h ≡ Is (Created i) d → (findOf b h ≡ FoundAt i) × (objectAt b i ≡ DcOf d)
-unfolding dcOf
-dc-found b h {i} {d} e = by-test (eqb h 0xDEAD_0DC0) e
-  where
-    by-object : (j : ℕ) (o : GdiObject) → dcAt j o ≡ Is (Created i) d → (j ≡ i) × (o ≡ DcOf d)
-    by-object j (DcOf x) f = (cc, cc)
-    by-object j (BitmapOf x) f = let z : _≡_ {A = ℕ} 0 1 = cc in absurd (omega arith)
-    by-object j (Brush x) f = let z : _≡_ {A = ℕ} 0 1 = cc in absurd (omega arith)
-    by-object j (Pen x) f = let z : _≡_ {A = ℕ} 0 1 = cc in absurd (omega arith)
-    by-object j (Font x) f = let z : _≡_ {A = ℕ} 0 1 = cc in absurd (omega arith)
-
-    by-found : (q : Found) → findOf b h ≡ q → dcFound b q ≡ Is (Created i) d → (findOf b h ≡ FoundAt i) × (objectAt b i ≡ DcOf d)
-    by-found (FoundAt j) g f =
-        let r = by-object j (objectAt b j) f in
-        (g ∙ ap FoundAt (r .0), ap (objectAt b) (sym (r .0)) ∙ r .1)
-    by-found Nothing g f = let z : _≡_ {A = ℕ} 0 1 = cc in absurd (omega arith)
-
-    by-test : (t : Bool) → cond t (Is Screen (b .screen)) (dcFound b (findOf b h)) ≡ Is (Created i) d
-        → (findOf b h ≡ FoundAt i) × (objectAt b i ≡ DcOf d)
-    by-test true f = let z : _≡_ {A = ℕ} 0 1 = cc in absurd (omega arith)
-    by-test false f = by-found (findOf b h) refl f
 
 -- another DC record in its slot, under its handle
 abbrev dcSlot : ℕ → Dc → Slot

@@ -11,7 +11,6 @@ use lib.Seq.{getD-set-other, getD-append-add, getD-drop, length-take-le}
 use borrow.Author.Tests.{eqb-true}
 use Rattle.gdi.specs.declared.GdiState.{GdiState}
 use Rattle.gdi.specs.declared.GdiObject.{GdiObject}
-use Rattle.gdi.specs.declared.GdiObject.the-variants.{Dc as DcOf, Bitmap, Brush, Pen, Font}
 use Rattle.gdi.specs.declared.Slot.{Slot}
 use Rattle.gdi.specs.declared.Dc.{Dc}
 use Rattle.gdi.specs.declared.Found.{Found}
@@ -22,8 +21,8 @@ use Rattle.gdi.specs.declared.DcFound.{DcFound}
 use Rattle.gdi.specs.declared.DcFound.the-variants.{Is, Absent}
 use Rattle.gdi.specs.Record.{noSlot, vacantSlot, bytesOf, storeOf}
 use Rattle.gdi.specs.Stock.{isStock}
-use Rattle.gdi.specs.Lookup.{slotAt, objectAt, findOf, dcAt, dcFound, dcOf, kindOf}
-use Rattle.gdi.proofs.Scan.{found-count}
+use Rattle.gdi.specs.Lookup.{slotAt, findOf, dcOf, kindOf}
+use Rattle.gdi.proofs.Scan.{found-count, dc-found}
 use Rattle.sound.specs.Sound.{used}
 use Rattle.sound.proofs.Sound.{Sound, parts, table-long}
 use Rattle.memory.proofs.Gap.{closed-freed, closed-past}
@@ -100,27 +99,10 @@ module _ (b : GdiState) (sound : Sound b) (v : Vacant b) where
 
   -- a DC changed
   stored-vacant : (dc : ℕ) (p : Spot) (d₀ d : Dc) → dcOf b dc ≡ Is p d₀ → Vacant (storeOf b dc p d)
-  unfolding dcOf
   stored-vacant dc Screen d₀ d e = record { vacant = v .vacant }
-  stored-vacant dc (Created i) d₀ d e = by-test (eqb dc 0xDEAD_0DC0) e
-    where
-      at : i < b .count → Vacant (storeOf b dc (Created i) d)
-      at lt = record { vacant = λ j le few. getD-set-other (b .objects) i j _ noSlot (λ q. absurd (omega (arith, q))) ∙ v .vacant j le few }
-
-      by-object : (k : ℕ) (o : GdiObject) → k < b .count → dcAt k o ≡ Is (Created i) d₀ → Vacant (storeOf b dc (Created i) d)
-      by-object k (DcOf x) lt f = let z : k ≡ i = cc in at (rw z at lt)
-      by-object k (Bitmap x) lt f = let z : _≡_ {A = ℕ} 0 1 = cc in absurd (omega arith)
-      by-object k (Brush x) lt f = let z : _≡_ {A = ℕ} 0 1 = cc in absurd (omega arith)
-      by-object k (Pen x) lt f = let z : _≡_ {A = ℕ} 0 1 = cc in absurd (omega arith)
-      by-object k (Font x) lt f = let z : _≡_ {A = ℕ} 0 1 = cc in absurd (omega arith)
-
-      by-found : (q : Found) → findOf b dc ≡ q → dcFound b q ≡ Is (Created i) d₀ → Vacant (storeOf b dc (Created i) d)
-      by-found (At k) g f = by-object k (objectAt b k) (found-count b dc g) f
-      by-found Nothing g f = let z : _≡_ {A = ℕ} 0 1 = cc in absurd (omega arith)
-
-      by-test : (t : Bool) → cond t (Is Screen (b .screen)) (dcFound b (findOf b dc)) ≡ Is (Created i) d₀ → Vacant (storeOf b dc (Created i) d)
-      by-test true f = let z : _≡_ {A = ℕ} 0 1 = cc in absurd (omega arith)
-      by-test false f = by-found (findOf b dc) refl f
+  stored-vacant dc (Created i) d₀ d e =
+      let lt : i < b .count = found-count b dc (dc-found b dc e .0) in
+      record { vacant = λ j le few. getD-set-other (b .objects) i j _ noSlot (λ q. absurd (omega (arith, q, lt))) ∙ v .vacant j le few }
 
   select-vacant : (dc h : ℕ) → Vacant (selectInto b dc h .outcome .state)
   unfolding selectInto

@@ -1,9 +1,11 @@
-//! Times calls on a bench beside the original's hash map: in each round one
-//! after the other, the order changing; a row has the medians over the rounds.
-//! The sums of all answers must be equal. Every proved call checks the record
-//! anew, which the original never does.
+//! Times calls on a bench, made by the program `calls_bench`, beside the
+//! original's hash map: in each round one after the other, the order changing; a
+//! row has the medians over the rounds. The sums of all answers must be equal.
+//! Every proved call checks the record anew, which the original never does.
 
 use std::hint::black_box;
+use std::io::Write;
+use std::process::{Command, Stdio};
 use std::time::Instant;
 
 use pocket_kernel::gdi::{GdiState, GDI_HANDLE_BASE};
@@ -12,22 +14,32 @@ use pocket_kernel::gdi::{GdiState, GDI_HANDLE_BASE};
 /// before the stock ones.
 const TIMES: u32 = 4000;
 
-#[rustfmt::skip]
-#[link(name = "calls_bench", kind = "static")]
-extern "C" {
-    fn ravinefork_spin_set_text_color(objects: u32, times: u32) -> u32;
-    fn ravinefork_spin_select_into(objects: u32, times: u32) -> u32;
-    fn ravinefork_spin_create_delete(objects: u32, times: u32) -> u32;
-}
+/// Where `rt check` builds the program.
+const PROGRAM: &str = concat!(env!("CARGO_MANIFEST_DIR"), "/../../target/bin/calls_bench");
 
-type Proved = unsafe extern "C" fn(u32, u32) -> u32;
 type Original = fn(&mut GdiState, u32) -> u32;
 
+/// The sum of the program's answers.
+fn proved(call: u8, objects: u32, times: u32) -> u32 {
+    let mut program = Command::new(PROGRAM)
+        .stdin(Stdio::piped())
+        .stdout(Stdio::piped())
+        .spawn()
+        .expect("the program, which `run` builds");
+    let mut input = vec![call];
+    input.extend(objects.to_be_bytes());
+    input.extend(times.to_be_bytes());
+    program.stdin.take().expect("its input").write_all(&input).expect("to be read");
+    let output = program.wait_with_output().expect("its output").stdout;
+    let line = String::from_utf8(output).expect("a line");
+    u32::from_str_radix(line.trim_end(), 16).expect("a number")
+}
+
 /// What is called, and how many calls that makes.
-const ROWS: [(&str, u32, Proved, Original); 3] = [
-    ("set text colour", 1, ravinefork_spin_set_text_color, set_text_color),
-    ("select", 1, ravinefork_spin_select_into, select_into),
-    ("create a brush, delete it", 2, ravinefork_spin_create_delete, create_delete),
+const ROWS: [(&str, u32, Original); 3] = [
+    ("set text colour", 1, set_text_color),
+    ("select", 1, select_into),
+    ("create a brush, delete it (each)", 2, create_delete),
 ];
 
 fn filled(objects: u32) -> GdiState {
@@ -65,7 +77,7 @@ fn median(mut times: Vec<f64>) -> f64 {
     times[times.len() / 2]
 }
 
-/// Nanoseconds for a call, the time to fill the bench taken off.
+/// Nanoseconds for a call, the time to start and to fill the bench taken off.
 fn time(calls: u32, mut spin: impl FnMut(u32) -> u32) -> f64 {
     let mut clock = |times| {
         let start = Instant::now();
@@ -79,10 +91,9 @@ fn time(calls: u32, mut spin: impl FnMut(u32) -> u32) -> f64 {
 fn main() {
     println!("| call | objects | proved, ns | original, ns |");
     println!("|---|---|---|---|");
-    for (name, calls, proved, original) in ROWS {
+    for (call, (name, calls, original)) in (0..).zip(ROWS) {
         for objects in [10, 256 - calls + 1] {
-            // SAFETY: numbers go in and a number comes out.
-            let ours = |times| unsafe { proved(objects, times) };
+            let ours = |times| proved(call, objects, times);
             let theirs = |times| original(&mut filled(objects), times);
             assert_eq!(ours(100), theirs(100), "{name}: the answers differ");
             let mut times = [Vec::new(), Vec::new()];

@@ -1,7 +1,7 @@
 -- `primitives::perform` is safe and ends: the memory is as long as it is declared, also after the cases. Assumes nothing.
 use mathlib.Core.Path.{_≡_, sym, _∙_}
 use lib.ListN.{length}
-use Rattle.primitives.proofs.Arrays.{zeros}
+use Rattle.laws.proofs.Arrays.{zeros}
 use Rattle.primitives.proofs.perform.Statement.{statement}
 use Rattle.primitives.proofs.perform.Tie as tie
 

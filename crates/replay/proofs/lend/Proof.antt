@@ -1,5 +1,5 @@
 -- `replay::lend` is safe and ends: the memories are as long as they are declared. Assumes nothing.
-use Rattle.replay.proofs.Arrays.{zeros, served}
+use Rattle.laws.proofs.Arrays.{zeros, served}
 use Rattle.replay.proofs.lend.Statement.{statement}
 use Rattle.replay.proofs.lend.Tie as tie
 

@@ -3,7 +3,7 @@ use mathlib.Core.Path.{_≡_, sym}
 use Prim.Native.Nat.{_-_, _≤_}
 use lib.ListN.{length}
 use borrow.Author.Needs.{needs}
-use Rattle.primitives.proofs.Arrays.{zeros}
+use Rattle.laws.proofs.Arrays.{zeros}
 use Rattle.primitives.proofs.picture.write_row.Statement.{statement}
 use Rattle.primitives.proofs.picture.write_row.Tie as tie
 

@@ -3,20 +3,20 @@ use Prim.Native.Nat.{_-_}
 use native.Mathlib.Omega.{arith}
 use lib.ListN.{length}
 use borrow.Author.Needs.{needs}
-use Rattle.calls_bench.proofs.ravinefork_spin_set_text_color.Statement.{statement}
-use Rattle.calls_bench.proofs.ravinefork_spin_set_text_color.Tie as tie
-use Rattle.calls_bench.proofs.ravinefork_spin_set_text_color.Reads as reads
-use Rattle.calls_bench.proofs.ravinefork_spin_set_text_color.Lts as lts
+use Rattle.calls_bench.proofs.spin_select_into.Statement.{statement}
+use Rattle.calls_bench.proofs.spin_select_into.Tie as tie
+use Rattle.calls_bench.proofs.spin_select_into.Reads as reads
+use Rattle.calls_bench.proofs.spin_select_into.Lts as lts
 use Rattle.calls_bench.proofs.filled.Reads as filled-reads
 use Rattle.calls_bench.proofs.number.Reads as number-reads
-use Rattle.perform.proofs.set_text_color.Reads as set-text-color-reads
+use Rattle.perform.proofs.select_into.Reads as select-into-reads
 use Rattle.std.proofs.num.wrapping_add_u32.Reads as wrapping-add-u32-reads
 
 abbrev Inv-loop : tie.InvT-loop
-Inv-loop objects times panel₀ store₀ state₀ sum₀ i₀ panel store state sum i = (length panel ≡ 2) × (length store ≡ 2)
+Inv-loop objects times panel₀ store₀ state₀ sum₀ i₀ brush₀ panel store state sum i brush = (length panel ≡ 2) × (length store ≡ 2)
 
 abbrev μ-loop : tie.MeasureT-loop
-μ-loop objects times panel₀ store₀ state₀ sum₀ i₀ panel store state sum i = times - i
+μ-loop objects times panel₀ store₀ state₀ sum₀ i₀ brush₀ panel store state sum i brush = times - i
 
 slice-aggregate-filled : tie.Need-slice-aggregate-filled Inv-loop μ-loop
 slice-aggregate-filled c = search needs
@@ -27,17 +27,20 @@ slice-aggregate-filled-2 c = search needs
 filled-requires : tie.Need-filled-requires Inv-loop μ-loop
 filled-requires c κs = search needs
 
+add-brush : tie.Need-add-brush Inv-loop μ-loop
+add-brush c = search needs
+
 loop-holds : tie.Need-loop-holds Inv-loop μ-loop
 loop-holds c = search needs
 
-slice-aggregate-set-text-color : tie.Need-slice-aggregate-set-text-color Inv-loop μ-loop
-slice-aggregate-set-text-color c = search needs
+slice-aggregate-select-into : tie.Need-slice-aggregate-select-into Inv-loop μ-loop
+slice-aggregate-select-into c = search needs
 
-slice-aggregate-set-text-color-2 : tie.Need-slice-aggregate-set-text-color-2 Inv-loop μ-loop
-slice-aggregate-set-text-color-2 c = search needs
+slice-aggregate-select-into-2 : tie.Need-slice-aggregate-select-into-2 Inv-loop μ-loop
+slice-aggregate-select-into-2 c = search needs
 
-set-text-color-requires : tie.Need-set-text-color-requires Inv-loop μ-loop
-set-text-color-requires c κs = search needs
+select-into-requires : tie.Need-select-into-requires Inv-loop μ-loop
+select-into-requires c κs = search needs
 
 number-requires : tie.Need-number-requires Inv-loop μ-loop
 number-requires c κs = search needs
@@ -57,8 +60,8 @@ loop-again c = search needs
 returns : tie.Need-returns Inv-loop μ-loop
 returns c = search needs
 
-pub ravinefork-spin-set-text-color-spec : {M : Type 1} → statement M
-ravinefork-spin-set-text-color-spec =
+pub spin-select-into-spec : {M : Type 1} → statement M
+spin-select-into-spec =
     tie.close
     (tie.spec
     Inv-loop
@@ -66,10 +69,11 @@ ravinefork-spin-set-text-color-spec =
     slice-aggregate-filled
     slice-aggregate-filled-2
     filled-requires
+    add-brush
     loop-holds
-    slice-aggregate-set-text-color
-    slice-aggregate-set-text-color-2
-    set-text-color-requires
+    slice-aggregate-select-into
+    slice-aggregate-select-into-2
+    select-into-requires
     number-requires
     wrapping-add-u32-requires
     add-i

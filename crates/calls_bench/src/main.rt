@@ -1,9 +1,33 @@
-// Loops of calls on one bench, for the benchmark in compare/bench: only numbers cross, the record stays here. Each answers
-// the sum of its answers, so that the two sides can be held against each other.
+// Makes a call again and again on one bench, for the benchmark in compare/bench. Nine bytes come in, numbers most significant
+// byte first: the call (0 a setting, 1 a selection, 2 a creation with its deletion), the objects and the times, 32 bits each.
+// The sum of the answers goes out, so that it can be held against the original's. Every function is proved safe, and to end.
 use color::Colorref;
 use gdi::GDI_HANDLE_BASE;
 use gdi::GdiState;
+use libc::STDIN_FILENO;
 use plan::Answer;
+
+// Reads the nine bytes, and one more if there are more.
+fn main() {
+    let mut input = [0u8; 10];
+    let n = io::read_full(STDIN_FILENO, &mut input);
+    if n != 9 {
+        lines::empty().text(b"bad input").print();
+        return;
+    }
+    let objects = bigendian::read_u32(&input, 1);
+    let times = bigendian::read_u32(&input, 5);
+    lines::empty().hex8(spin(input[0], objects, times)).print();
+}
+
+// The sum of the answers.
+fn spin(call: u8, objects: u32, times: u32) -> u32 {
+    match call {
+        0 => spin_set_text_color(objects, times),
+        1 => spin_select_into(objects, times),
+        _ => spin_create_delete(objects, times),
+    }
+}
 
 // A number for an answer.
 fn number(answer: Answer) -> u32 {
@@ -35,8 +59,7 @@ fn filled(panel: &mut [u8], store: &mut [u8], n: u32) -> GdiState {
 }
 
 // Sets the text colour of the DC.
-#[no_mangle]
-pub extern "C" fn ravinefork_spin_set_text_color(objects: u32, times: u32) -> u32 {
+fn spin_set_text_color(objects: u32, times: u32) -> u32 {
     let mut panel = [0u8; 2];
     let mut store = [0u8; 2];
     let mut state = filled(&mut panel, &mut store, objects);
@@ -59,8 +82,7 @@ pub extern "C" fn ravinefork_spin_set_text_color(objects: u32, times: u32) -> u3
 }
 
 // Selects two brushes in turn: the first one, and the stock brush.
-#[no_mangle]
-pub extern "C" fn ravinefork_spin_select_into(objects: u32, times: u32) -> u32 {
+fn spin_select_into(objects: u32, times: u32) -> u32 {
     let mut panel = [0u8; 2];
     let mut store = [0u8; 2];
     let mut state = filled(&mut panel, &mut store, objects);
@@ -79,8 +101,7 @@ pub extern "C" fn ravinefork_spin_select_into(objects: u32, times: u32) -> u32 {
 }
 
 // Creates a brush and deletes it.
-#[no_mangle]
-pub extern "C" fn ravinefork_spin_create_delete(objects: u32, times: u32) -> u32 {
+fn spin_create_delete(objects: u32, times: u32) -> u32 {
     let mut panel = [0u8; 2];
     let mut store = [0u8; 2];
     let mut state = filled(&mut panel, &mut store, objects);

@@ -3,10 +3,10 @@ use Prim.Native.Nat.{_-_}
 use native.Mathlib.Omega.{arith}
 use lib.ListN.{length}
 use borrow.Author.Needs.{needs}
-use Rattle.calls_bench.proofs.ravinefork_spin_create_delete.Statement.{statement}
-use Rattle.calls_bench.proofs.ravinefork_spin_create_delete.Tie as tie
-use Rattle.calls_bench.proofs.ravinefork_spin_create_delete.Reads as reads
-use Rattle.calls_bench.proofs.ravinefork_spin_create_delete.Lts as lts
+use Rattle.calls_bench.proofs.spin_create_delete.Statement.{statement}
+use Rattle.calls_bench.proofs.spin_create_delete.Tie as tie
+use Rattle.calls_bench.proofs.spin_create_delete.Reads as reads
+use Rattle.calls_bench.proofs.spin_create_delete.Lts as lts
 use Rattle.calls_bench.proofs.filled.Reads as filled-reads
 use Rattle.calls_bench.proofs.number.Reads as number-reads
 use Rattle.perform.proofs.create_solid_brush.Reads as create-solid-brush-reads
@@ -68,8 +68,8 @@ loop-again c = search needs
 returns : tie.Need-returns Inv-loop μ-loop
 returns c = search needs
 
-pub ravinefork-spin-create-delete-spec : {M : Type 1} → statement M
-ravinefork-spin-create-delete-spec =
+pub spin-create-delete-spec : {M : Type 1} → statement M
+spin-create-delete-spec =
     tie.close
     (tie.spec
     Inv-loop
