@@ -15,12 +15,21 @@ impl<const N: usize> Counts<N> {
 
     /// Adds one to the count of the name.
     pub fn add(&mut self, name: &str) {
+        self.counts[self.at(name)] += 1;
+    }
+
+    fn at(&self, name: &str) -> usize {
         let at = self.names.iter().position(|known| *known == name);
-        self.counts[at.unwrap_or_else(|| panic!("nothing is counted as {name}"))] += 1;
+        at.unwrap_or_else(|| panic!("nothing is counted as {name}"))
     }
 
     pub fn sum(&self) -> u64 {
         self.counts.iter().sum()
+    }
+
+    #[cfg(test)]
+    pub fn of(&self, name: &str) -> u64 {
+        self.counts[self.at(name)]
     }
 
     #[cfg(test)]

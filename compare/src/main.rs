@@ -2,13 +2,17 @@
 
 mod argument;
 mod calls;
+mod clip;
+mod codes;
 mod counts;
 mod crc;
 mod overflow;
 mod primitives;
 mod program;
+mod random;
 mod records;
 mod rng;
+mod span;
 mod table;
 
 use std::io::{self, Read, Write};
@@ -21,9 +25,10 @@ usage:
   compare answers                   print the original's answers to the script on standard input
   compare sample SCRIPT ANSWERS     write the fixed sample and the original's answers to files
   compare run PROGRAM COUNT SEED    compare COUNT random cases with a program that reads scripts
-  compare drawing TEXT              write the script of a drawing to standard output
   compare call-script SEED          write a random call script to standard output
   compare call-answers              print the original's lines for the call script on standard input
+  compare call-picture              write the final panel of the call script on standard input
+  compare script TEXT               write the call script of a drawing to standard output
   compare sample-calls STDIN STDOUT write the fixed call script and the original's lines to files
   compare calls PROGRAM COUNT SEED  compare COUNT random call scripts with a program
   compare handles PROGRAM           compare the call script that goes past the stock handles
@@ -49,9 +54,8 @@ fn main() -> ExitCode {
 /// False if answers differ; an error if there was nothing to compare.
 fn command(arguments: &[&str]) -> Result<bool, String> {
     match arguments {
-        ["call-script" | "call-answers" | "sample-calls" | "calls" | "handles", ..] => {
-            calls_command(arguments)
-        }
+        ["call-script" | "call-answers" | "call-picture" | "script", ..]
+        | ["sample-calls" | "calls" | "handles", ..] => calls_command(arguments),
         ["records" | "record-answers" | "records-run", ..] => records_command(arguments),
         _ => primitives_command(arguments),
     }
@@ -60,7 +64,12 @@ fn command(arguments: &[&str]) -> Result<bool, String> {
 fn calls_command(arguments: &[&str]) -> Result<bool, String> {
     match arguments {
         ["call-script", seed] => print(&calls::script(number(seed)?))?,
-        ["call-answers"] => print(calls::answers(&input()?).as_bytes())?,
+        ["call-answers"] => print(calls::answers(&input()?)?.as_bytes())?,
+        ["call-picture"] => print(&calls::picture(&input()?)?)?,
+        ["script", text] => {
+            let text = fs::read_to_string(text).map_err(|e| format!("{text}: {e}"))?;
+            print(&calls::drawing(&text)?)?;
+        }
         ["sample-calls", script, lines] => {
             let (sample, text, tally) = calls::sample();
             write(script, &sample)?;
@@ -111,10 +120,6 @@ fn primitives_command(arguments: &[&str]) -> Result<bool, String> {
         }
         ["run", program, count, seed] => {
             return primitives::run(program, number(count)?, number(seed)?);
-        }
-        ["drawing", text] => {
-            let text = fs::read_to_string(text).map_err(|e| format!("{text}: {e}"))?;
-            print(&primitives::drawing(&text)?)?;
         }
         _ => return Err(USAGE.into()),
     }

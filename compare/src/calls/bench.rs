@@ -1,16 +1,18 @@
 //! The bench: the original's objects and panel, behind refusals and in lent
 //! memories, which the original does not have.
 
-use std::fmt;
 use std::mem::replace;
 
 use pocket_kernel::framebuffer::Framebuffer;
-use pocket_kernel::gdi::{Dc, GdiObject, GdiState, GDI_SCREEN_DC, STOCK_DEFAULT_BITMAP};
+use pocket_kernel::gdi::{Bitmap, Dc, GdiState, GDI_SCREEN_DC, STOCK_DEFAULT_BITMAP};
 
 use super::call::Call;
 use super::line;
 use super::original::Original;
+use super::outcome::{Answer, Outcome, Stop};
+use super::paint::Place;
 use crate::crc::crc32;
+use crate::overflow::Overflow;
 
 pub const MAX_SIDE: u32 = 4096;
 pub const MAX_MEMORY: u64 = 33_554_432;
@@ -18,29 +20,18 @@ pub const MAX_OBJECTS: usize = 256;
 
 pub struct Bench {
     original: Original,
-    panel: Framebuffer,
+    pub(super) panel: Framebuffer,
     /// The stock bitmap, then the created objects in order of creation: the
     /// order of pixels in the store. Empty after a refused open.
     order: Vec<u32>,
     /// The memories as lent: the original has the pixels, these the other bytes.
-    panel_memory: Vec<u8>,
+    pub(super) panel_memory: Vec<u8>,
     store: Vec<u8>,
-    /// The bitmaps that deletions and removals have moved down.
-    pub moved: u64,
-}
-
-/// What a call came to; shown as it is printed.
-pub struct Outcome {
-    /// The number of the refusal, 0 if there is none.
-    pub refusal: u8,
-    pub answer: Answer,
-}
-
-pub enum Answer {
-    /// A handle, COLORREF or alignment.
-    Number(u32),
-    Flag(bool),
-    Object(Option<GdiObject>),
+    /// Whether the call under way has changed a pixel.
+    pub(super) changed: bool,
+    /// The bitmaps that deletions and removals have moved down, and those of
+    /// them that were not all black.
+    pub moved: [u64; 2],
 }
 
 impl Bench {
@@ -70,13 +61,23 @@ impl Bench {
             order: if refusal == 0 { vec![STOCK_DEFAULT_BITMAP] } else { Vec::new() },
             panel_memory: panel,
             store,
-            moved: 0,
+            changed: false,
+            moved: [0; 2],
         };
         (refusal, bench)
     }
 
+    /// The length of the panel memory.
+    pub fn panel_len(&self) -> usize {
+        self.panel_memory.len()
+    }
+
     pub fn gdi(&self) -> &GdiState {
         &self.original.gdi
+    }
+
+    pub(super) fn gdi_mut(&mut self) -> &mut GdiState {
+        &mut self.original.gdi
     }
 
     /// The handles of the created objects, in order of creation.
@@ -94,15 +95,20 @@ impl Bench {
         self.store.len() - self.used()
     }
 
-    pub fn perform(&mut self, call: &Call) -> Outcome {
-        match self.attempt(call) {
-            Ok(answer) => Outcome { refusal: 0, answer },
-            Err(refusal) => Outcome { refusal, answer: Answer::nothing(call) },
-        }
+    /// Performs the call. Where a sum of the original overflows there is no
+    /// outcome, and the bench is as it was.
+    pub fn perform(&mut self, call: &Call) -> Result<Outcome, Overflow> {
+        let panel = self.sides(Place::Panel);
+        self.changed = false;
+        let (refusal, answer) = match self.attempt(call) {
+            Ok(answer) => (0, answer),
+            Err(Stop::Refused(number)) => (number, Answer::refused(call)),
+            Err(Stop::Overflow) => return Err(Overflow),
+        };
+        Ok(Outcome { refusal, answer, changed: self.changed, panel })
     }
 
-    /// The answer, or the number of the refusal.
-    fn attempt(&mut self, call: &Call) -> Result<Answer, u8> {
+    fn attempt(&mut self, call: &Call) -> Result<Answer, Stop> {
         Ok(match *call {
             Call::CreateMemoryDc {}
             | Call::CreateCompatibleBitmap { .. }
@@ -126,6 +132,7 @@ impl Bench {
             Call::SetBkMode { dc, transparent } => {
                 Answer::Flag(replace(&mut self.dc_mut(dc)?.bk_transparent, transparent == 1))
             }
+            _ => self.draw(call)?,
         })
     }
 
@@ -159,9 +166,11 @@ impl Bench {
             self.order.remove(at);
             let freed = self.used()..used;
             if !freed.is_empty() {
-                let behind =
+                let bitmaps =
                     self.order[at..].iter().filter_map(|&handle| self.gdi().bitmap(handle));
-                self.moved += behind.count() as u64;
+                let colored = |bitmap: &&Bitmap| bitmap.pixels.iter().any(|byte| *byte != 0);
+                let moved = [bitmaps.clone().count(), bitmaps.filter(colored).count()];
+                self.moved = [0, 1].map(|at| self.moved[at] + moved[at] as u64);
             }
             self.store[freed].fill(0);
         }
@@ -183,8 +192,13 @@ impl Bench {
         self.pixels().map(<[u8]>::len).sum()
     }
 
+    /// The panel as a P6 picture.
+    pub fn picture(&self) -> Vec<u8> {
+        self.panel.snapshot_ppm()
+    }
+
     /// The panel memory, whole.
-    fn panel_bytes(&self) -> Vec<u8> {
+    pub(super) fn panel_bytes(&self) -> Vec<u8> {
         let pixels = self.panel.pixels.as_slice();
         [pixels, &self.panel_memory[pixels.len()..]].concat()
     }
@@ -220,29 +234,6 @@ impl Bench {
     }
 }
 
-impl fmt::Display for Outcome {
-    fn fmt(&self, f: &mut fmt::Formatter<'_>) -> fmt::Result {
-        write!(f, "{}", self.refusal)?;
-        match &self.answer {
-            Answer::Number(number) => write!(f, " {number:08x}"),
-            Answer::Flag(flag) => write!(f, " {}", u8::from(*flag)),
-            Answer::Object(Some(object)) => write!(f, " {}", line::object(object)),
-            Answer::Object(None) => f.write_str(" none"),
-        }
-    }
-}
-
-impl Answer {
-    /// The answer of a call that is refused.
-    fn nothing(call: &Call) -> Self {
-        match call {
-            Call::Delete { .. } | Call::SetBkMode { .. } => Answer::Flag(false),
-            Call::Remove { .. } => Answer::Object(None),
-            _ => Answer::Number(0),
-        }
-    }
-}
-
 /// The bytes of a surface of these sides.
 pub fn bytes_of(width: u32, height: u32) -> u64 {
     2 * u64::from(width) * u64::from(height)
@@ -261,7 +252,7 @@ mod tests {
 
     /// Performs the call: its refusal and its answer, as printed.
     fn perform(bench: &mut Bench, call: Call) -> String {
-        bench.perform(&call).to_string()
+        bench.perform(&call).expect("no sum overflows").to_string()
     }
 
     fn bitmap(bench: &mut Bench, width: u32, height: u32) -> String {
@@ -334,17 +325,17 @@ mod tests {
             bitmap(&mut bench, side, 1);
         }
         for (handle, byte) in [(0xDEAD_1000, 1), (0xDEAD_1001, 2), (0xDEAD_1002, 3)] {
-            bench.original.gdi.bitmap_mut(handle).unwrap().pixels.fill(byte);
+            bench.gdi_mut().bitmap_mut(handle).unwrap().pixels.fill(byte);
         }
         assert_eq!(bench.store_bytes(), [0, 0, 1, 1, 2, 2, 2, 2, 3, 3, 0xA5, 0xA5, 0xA5, 0xA5]);
         assert_eq!(perform(&mut bench, Call::Delete { handle: 0xDEAD_1001 }), "0 1");
         assert_eq!(bench.store_bytes(), [0, 0, 1, 1, 3, 3, 0, 0, 0, 0, 0xA5, 0xA5, 0xA5, 0xA5]);
-        assert_eq!((bench.moved, bench.left()), (1, 8));
+        assert_eq!((bench.moved, bench.left()), ([1, 1], 8));
         bitmap(&mut bench, 4, 1);
         assert_eq!(bench.store_bytes(), [0, 0, 1, 1, 3, 3, 0, 0, 0, 0, 0, 0, 0, 0]);
         perform(&mut bench, Call::Remove { handle: 0xDEAD_1000 });
         assert_eq!(bench.store_bytes(), [0, 0, 3, 3, 0, 0, 0, 0, 0, 0, 0, 0, 0, 0]);
-        assert_eq!(bench.moved, 3);
+        assert_eq!(bench.moved, [3, 2]);
     }
 
     #[test]

@@ -1,6 +1,10 @@
 //! The calls of docs/call-script.md, as values and as bytes.
 
+use crate::argument::Units;
 use crate::table::table;
+
+/// The units of the longest text that a script may have.
+pub const MAX_UNITS: usize = 70_000;
 
 table! {
     /// One call with its arguments.
@@ -17,6 +21,15 @@ table! {
         0x0A "set text alignment" SetTextAlign { dc: u32, align: u32 }
         0x0B "set background colour" SetBkColor { dc: u32, color: u32 }
         0x0C "set background mode" SetBkMode { dc: u32, transparent: u32 }
+        0x0D "pattern fill" PatternFill { dc: u32, x: i32, y: i32, w: i32, h: i32, code: u32 }
+        0x0E "rectangle" Rectangle { dc: u32, x: i32, y: i32, w: i32, h: i32 }
+        0x0F "text" Text { dc: u32, x: i32, y: i32, units: Units<u32> }
+        0x10 "panel fill" PanelFill { word: u32 }
+        0x11 "resize" Resize { width: u32, height: u32 }
+        0x12 "blit" Blit {
+            dc: u32, x: i32, y: i32, w: i32, h: i32,
+            source: u32, sx: i32, sy: i32, code: u32
+        }
     }
 }
 
@@ -26,9 +39,21 @@ impl Call {
         let call = Call::read_any(script)?;
         let good = match call {
             Call::SetBkMode { transparent, .. } => transparent <= 1,
+            Call::Text { ref units, .. } => units.as_slice().len() <= MAX_UNITS,
+            Call::PanelFill { word } => word <= u16::MAX.into(),
             _ => true,
         };
         good.then_some(call)
+    }
+
+    /// A text with these units.
+    pub fn text(dc: u32, x: i32, y: i32, units: Vec<u16>) -> Call {
+        let units = Units::new(units).expect("their number has 32 bits");
+        Call::Text { dc, x, y, units }
+    }
+
+    pub fn draws(&self) -> bool {
+        is_drawing(self.byte())
     }
 
     /// The call as bytes.
@@ -37,6 +62,11 @@ impl Call {
         self.write(&mut bytes);
         bytes
     }
+}
+
+/// Whether calls with this byte draw, on the surface of a DC or on the panel.
+pub fn is_drawing(byte: u8) -> bool {
+    byte >= 0x0D
 }
 
 #[cfg(test)]
@@ -52,16 +82,30 @@ mod tests {
         assert_eq!(call.to_string(), "create pen, color 0x80ff01, width 7");
         assert_eq!(Call::CreateFont { height: -2 }.bytes(), [0x05, 0xFF, 0xFF, 0xFF, 0xFE]);
         assert_eq!(Call::CreateMemoryDc {}.bytes(), [0x01]);
+        let text = Call::text(1, -1, 2, vec![0x41, 0xD800]);
+        let bytes = [
+            [0x0F, 0, 0, 0, 1, 0xFF, 0xFF, 0xFF, 0xFF].as_slice(),
+            &[0, 0, 0, 2, 0, 0, 0, 2, 0, 0x41, 0xD8, 0],
+        ];
+        assert_eq!(text.bytes(), bytes.concat());
+        assert_eq!(Call::read(&mut bytes.concat().as_slice()), Some(text));
     }
 
     #[test]
     fn bad_calls_are_not_read() {
         let mode = |transparent| Call::SetBkMode { dc: 0, transparent }.bytes();
+        let fill = |word| Call::PanelFill { word }.bytes();
+        let text = |count| Call::text(0, 0, 0, vec![0; count]).bytes();
         let bad = [vec![], vec![0x00], vec![0x13], vec![0xFF], mode(2), mode(0x0100_0000)];
-        for bytes in bad {
+        let long = [fill(0x0001_0000), fill(0x8000_0000), text(MAX_UNITS + 1)];
+        for bytes in bad.into_iter().chain(long) {
             assert_eq!(Call::read(&mut bytes.as_slice()), None, "{bytes:?}");
         }
-        for call in [Call::Delete { handle: 1 }, Call::Select { dc: 1, object: 2 }] {
+        for bytes in [mode(1), fill(0xFFFF), text(0), text(MAX_UNITS)] {
+            assert!(Call::read(&mut bytes.as_slice()).is_some());
+        }
+        let text = Call::text(1, 2, 3, vec![4, 5]);
+        for call in [Call::Delete { handle: 1 }, Call::Select { dc: 1, object: 2 }, text] {
             let bytes = call.bytes();
             for len in 0..bytes.len() {
                 assert_eq!(Call::read(&mut &bytes[..len]), None);

@@ -1,6 +1,10 @@
 //! Short scripts at the edges of the format.
 
-use super::call::Call;
+use pocket_kernel::gdi::rop3::{DSTINVERT, SRCCOPY};
+use pocket_kernel::gdi::GDI_SCREEN_DC;
+
+use super::call::{Call, MAX_UNITS};
+use super::paint::drawn;
 use super::script::{Header, MOST_PANEL, MOST_STORE};
 
 /// A header whose memories are just long enough.
@@ -8,19 +12,47 @@ const SMALL: Header = Header { panel_len: 8, store_len: 2, width: 2, height: 2, 
 
 /// Headers, calls and opens that are just good, or just not.
 pub fn scripts() -> Vec<Vec<u8>> {
-    let mut scripts = vec![twelve_bytes()];
+    let mut scripts = vec![twelve_bytes(), long_texts()];
     scripts.extend(headers().iter().map(Header::bytes));
     let small = SMALL.bytes();
     scripts.extend((0..small.len()).map(|len| small[..len].to_vec()));
     scripts.extend((0..4).map(|at| [&small[..at], b"i", &small[at + 1..]].concat()));
     // Each byte where a call should begin, and nothing behind it.
     scripts.extend((0..=u8::MAX).map(|byte| [&small[..], &[0x01, byte]].concat()));
-    for call in longest() {
+    for call in with_arguments() {
         let bytes = call.bytes();
         let cut = &bytes[..bytes.len() - 1];
         scripts.extend([&bytes, cut].map(|bytes| [&small[..], bytes].concat()));
     }
+    for bad in [Call::text(GDI_SCREEN_DC, 0, 0, vec![0x41; MAX_UNITS + 1]), panel_fill(0x0001_0000)]
+    {
+        scripts.push([&small[..], &bad.bytes(), &[0x01]].concat());
+    }
     scripts
+}
+
+fn panel_fill(word: u32) -> Call {
+    Call::PanelFill { word }
+}
+
+/// As many units as are accepted, and one more; a stop behind so many and before.
+/// The last unit that is drawn is in sight.
+fn long_texts() -> Vec<u8> {
+    let header = Header { panel_len: 2 * 24 * 8, width: 24, height: 8, ..SMALL };
+    let mut script = header.bytes();
+    Call::SetTextColor { dc: GDI_SCREEN_DC, color: 0x00FF_FFFF }.write(&mut script);
+    for (count, stop) in [(65_535, None), (65_536, None), (65_536, Some(65_535)), (65_536, Some(5))]
+    {
+        let mut units = [0x41, 0x7F, 0x7E].repeat(22_000)[..count].to_vec();
+        if let Some(stop) = stop {
+            units[stop] = 0;
+        }
+        let drawn = drawn(&units) as i32;
+        Call::text(GDI_SCREEN_DC, 6 - 6 * drawn, 0, units).write(&mut script);
+    }
+    Call::text(GDI_SCREEN_DC, 12, 0, vec![0; MAX_UNITS]).write(&mut script);
+    Call::text(0, 12, 0, vec![0x41; MAX_UNITS]).write(&mut script);
+    script
 }
 
 /// The specification's example: what fits a store of 12 bytes, and what does not.
@@ -53,9 +85,10 @@ fn headers() -> Vec<Header> {
     headers
 }
 
-/// Each call that has arguments; then modes that there are not.
-fn longest() -> Vec<Call> {
-    let (dc, color) = (0xDEAD_0DC0, 0x0102_0304);
+/// Each call that has arguments; then modes and panel fills that there are not.
+fn with_arguments() -> Vec<Call> {
+    let (x, y, w, h, sx, sy) = (0, 1, 2, 1, 0, 0);
+    let (dc, color) = (GDI_SCREEN_DC, 0x0102_0304);
     let mut calls = vec![
         Call::CreateCompatibleBitmap { width: 1, height: 1 },
         Call::CreateSolidBrush { color },
@@ -68,26 +101,36 @@ fn longest() -> Vec<Call> {
         Call::SetTextAlign { dc, align: 6 },
         Call::SetBkColor { dc, color },
         Call::SetBkMode { dc, transparent: 1 },
+        Call::PatternFill { dc, x, y, w, h, code: DSTINVERT },
+        Call::Rectangle { dc, x, y, w, h },
+        Call::text(dc, x, y, vec![0x41, 0x42]),
+        panel_fill(0xFFFF),
+        Call::Resize { width: 1, height: 4 },
+        Call::Blit { dc, x, y, w, h, source: dc, sx, sy, code: SRCCOPY },
     ];
     let modes = [2, 0x100, 0x0100_0000, u32::MAX];
     calls.extend(modes.map(|transparent| Call::SetBkMode { dc, transparent }));
+    calls.extend([0x0001_0000, 0x0100_FFFF, 0x8000_0000].map(panel_fill));
     calls
 }
 
 #[cfg(test)]
 mod tests {
     use super::*;
-    use crate::calls::answers;
+    use crate::calls::printed;
 
     #[test]
     fn every_beginning_and_end_occurs() {
-        let texts: Vec<String> = scripts().iter().map(|script| answers(script)).collect();
+        let texts: Vec<String> = scripts().iter().map(|script| printed(script)).collect();
         for line in ["open 0\n", "open 6\n", "open 7\n", "bad script\n", "too large\n"] {
             assert!(texts.iter().any(|text| text.starts_with(line)), "{line}");
         }
         let bad = texts.iter().filter(|text| text.contains("\nbad call\n"));
-        assert_eq!(bad.count(), 255 + 11 + 2 * 4);
+        assert_eq!(bad.count(), 255 + 17 + 2 * (4 + 3) + 2);
         let twelve = "open 0\n02 7 00000000\n02 6 00000000\n02 0 dead1000\n02 7 00000000\npanel ";
         assert!(texts[0].starts_with(twelve), "{}", texts[0]);
+        let long = "open 0\n09 0 00000000\n0f 0 393210\n0f 10 0\n0f 0 393210\n0f 0 30\n0f 0 0\n\
+                    0f 1 0\npanel 24 8 frames 3 ";
+        assert!(texts[1].starts_with(long), "{}", texts[1]);
     }
 }

@@ -1,5 +1,6 @@
 //! Calls that can be checked by hand.
 
+use pocket_kernel::gdi::rop3::PATCOPY;
 use pocket_kernel::gdi::{
     GDI_HANDLE_BASE, GDI_SCREEN_DC, STOCK_BLACK_PEN, STOCK_DEFAULT_BITMAP, STOCK_NULL_BRUSH,
     STOCK_SYSTEM_FONT, STOCK_WHITE_BRUSH,
@@ -8,15 +9,13 @@ use pocket_kernel::gdi::{
 use super::bench::MAX_OBJECTS;
 use super::call::Call;
 use super::handle::STOCK;
-use super::script::Header;
 
-/// The sample's bench: bytes past the panel, and a store that two bitmaps with
-/// the longest side fit, with 14 bytes left.
-pub const HEADER: Header =
-    Header { panel_len: 771, store_len: 2 + 2 * 8192 + 14, width: 24, height: 16, fill: 0xA5 };
+/// What is left of the store for the examples of `room`: two bitmaps with the
+/// longest side, and 14 bytes.
+pub const ROOM: u32 = 2 * 8192 + 14;
 
-/// Every call, every kind of answer, and as many objects as there can be, which
-/// are all deleted.
+/// Every call that draws nothing, every kind of answer, and as many objects as
+/// there can be, which are all deleted.
 pub fn calls() -> Vec<Call> {
     let mut list = List { calls: Vec::new(), next: GDI_HANDLE_BASE };
     settings(&mut list);
@@ -27,8 +26,8 @@ pub fn calls() -> Vec<Call> {
 }
 
 /// Sides past the limit, and bitmaps that just fit the store or just do not, on
-/// a bench without created bitmaps whose next handle this is. At the end no byte
-/// of the store is left.
+/// a bench with `ROOM` bytes left whose next handle this is. At the end four
+/// bytes of the store are left, which a bitmap had.
 pub fn room(next: u32) -> Vec<Call> {
     let mut list = List { calls: Vec::new(), next };
     for side in [4097, 0x1_0000, 0x8000_0000, u32::MAX] {
@@ -43,42 +42,46 @@ pub fn room(next: u32) -> Vec<Call> {
     // The other two have moved down; the new one is behind them.
     list.create(bitmap(64, 64));
     list.add([bitmap(1, 1), remove(last)]);
-    list.create(bitmap(1, 2));
+    let before = list.create(bitmap(1, 2));
     // As much is left as on a fresh bench with a store of 12 bytes.
     list.add([bitmap(1, 6)]);
-    list.create(bitmap(0, 5));
+    let last = list.create(bitmap(0, 5));
     list.add([bitmap(1, 1)]);
+    // A white bitmap at the end of the store moves down, and leaves black bytes.
+    let dc = list.create(Call::CreateMemoryDc {});
+    let white = Call::PatternFill { dc, x: 0, y: 0, w: 1, h: 5, code: PATCOPY };
+    list.add([select(dc, last), white, delete(before)]);
     list.calls
 }
 
 /// Calls, and the handle that the next creation gives.
-struct List {
-    calls: Vec<Call>,
-    next: u32,
+pub struct List {
+    pub calls: Vec<Call>,
+    pub next: u32,
 }
 
 impl List {
-    fn add(&mut self, calls: impl IntoIterator<Item = Call>) {
+    pub fn add(&mut self, calls: impl IntoIterator<Item = Call>) {
         self.calls.extend(calls);
     }
 
     /// Adds a creation that is accepted; its handle.
-    fn create(&mut self, call: Call) -> u32 {
+    pub fn create(&mut self, call: Call) -> u32 {
         self.calls.push(call);
         self.next += 1;
         self.next - 1
     }
 }
 
-fn bitmap(width: u32, height: u32) -> Call {
+pub fn bitmap(width: u32, height: u32) -> Call {
     Call::CreateCompatibleBitmap { width, height }
 }
 
-fn brush(color: u32) -> Call {
+pub fn brush(color: u32) -> Call {
     Call::CreateSolidBrush { color }
 }
 
-fn pen(color: u32, width: u32) -> Call {
+pub fn pen(color: u32, width: u32) -> Call {
     Call::CreatePen { color, width }
 }
 
@@ -86,15 +89,15 @@ fn font(height: i32) -> Call {
     Call::CreateFont { height }
 }
 
-fn select(dc: u32, object: u32) -> Call {
+pub fn select(dc: u32, object: u32) -> Call {
     Call::Select { dc, object }
 }
 
-fn delete(handle: u32) -> Call {
+pub fn delete(handle: u32) -> Call {
     Call::Delete { handle }
 }
 
-fn remove(handle: u32) -> Call {
+pub fn remove(handle: u32) -> Call {
     Call::Remove { handle }
 }
 

@@ -31,13 +31,46 @@ pub fn a_dc(rng: &mut Rng, bench: &Bench) -> u32 {
     }
 }
 
+/// A DC to select the object into: for a bitmap at times one without a surface.
+pub fn dc_for(rng: &mut Rng, bench: &Bench, object: u32) -> u32 {
+    if bench.gdi().bitmap(object).is_some() && rng.one_in(2) {
+        created(rng, bench, |handle| bench.place(handle) == Err(2))
+    } else {
+        a_dc(rng, bench)
+    }
+}
+
+/// Mostly a DC that has a surface: the screen's, or one with a live bitmap.
+pub fn with_surface(rng: &mut Rng, bench: &Bench) -> u32 {
+    match rng.below(24) {
+        0 => live(rng, bench, |_| true),
+        1 => other(rng, bench),
+        2 => live(rng, bench, is_dc),
+        3..=6 => GDI_SCREEN_DC,
+        _ => created(rng, bench, |handle| bench.place(handle).is_ok()),
+    }
+}
+
+/// A blit's source: the target, the screen DC, one with another surface, or any.
+pub fn source(rng: &mut Rng, bench: &Bench, target: u32) -> u32 {
+    let another =
+        |handle| bench.place(handle).is_ok() && bench.place(handle) != bench.place(target);
+    match rng.below(12) {
+        0..=2 => target,
+        3 => GDI_SCREEN_DC,
+        4..=7 => created(rng, bench, another),
+        _ => with_surface(rng, bench),
+    }
+}
+
 /// Mostly an object that a DC can hold.
 pub fn selectable(rng: &mut Rng, bench: &Bench) -> u32 {
     match rng.below(20) {
         0 => live(rng, bench, is_dc),
         1 => other(rng, bench),
-        2..=5 => rng.pick(&STOCK),
-        6..=9 => live(rng, bench, |object| matches!(object, GdiObject::Bitmap(_))),
+        2..=4 => rng.pick(&STOCK),
+        5 if rng.one_in(2) => gdi::STOCK_DEFAULT_BITMAP,
+        6..=13 => live(rng, bench, |object| matches!(object, GdiObject::Bitmap(_))),
         _ => live(rng, bench, |object| !is_dc(object)),
     }
 }
@@ -61,8 +94,13 @@ fn is_dc(object: &GdiObject) -> bool {
 
 /// A created object of this kind; the screen DC if there is none.
 fn live(rng: &mut Rng, bench: &Bench, kind: fn(&GdiObject) -> bool) -> u32 {
-    let of_kind = |handle: &&u32| bench.gdi().get(**handle).is_some_and(kind);
-    let created: Vec<u32> = bench.created().iter().filter(of_kind).copied().collect();
+    created(rng, bench, |handle| bench.gdi().get(handle).is_some_and(kind))
+}
+
+/// The same by handle.
+fn created(rng: &mut Rng, bench: &Bench, wanted: impl Fn(u32) -> bool) -> u32 {
+    let created = bench.created().iter().copied();
+    let created: Vec<u32> = created.filter(|&handle| wanted(handle)).collect();
     if created.is_empty() {
         GDI_SCREEN_DC
     } else {

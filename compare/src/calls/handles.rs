@@ -60,11 +60,11 @@ fn creation(given: u32) -> Call {
 #[cfg(test)]
 mod tests {
     use super::*;
-    use crate::calls::answers;
+    use crate::calls::printed;
 
     #[test]
     fn handles_go_on_past_the_stock_ones() {
-        let lines = answers(&handles());
+        let lines = printed(&handles());
         let given =
             |line: &&str| matches!(&line[..5], "01 0 " | "02 0 " | "03 0 " | "04 0 " | "05 0 ");
         let given: Vec<&str> = lines.lines().filter(given).map(|line| &line[5..]).collect();
@@ -76,7 +76,7 @@ mod tests {
 
     #[test]
     fn stock_objects_are_as_ever() {
-        let lines = answers(&handles());
+        let lines = printed(&handles());
         let colors = |line: &str| line.split(' ').skip(8).take(2).collect::<Vec<_>>().join(" ");
         let dcs = lines.lines().filter(|line| line.starts_with("object dead10"));
         let colors: Vec<String> = dcs.map(colors).collect();

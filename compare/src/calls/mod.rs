@@ -2,12 +2,17 @@
 
 mod bench;
 mod call;
+mod drawing;
+mod drawn;
 mod edges;
 mod examples;
 mod handle;
 mod handles;
 mod line;
 mod original;
+mod outcome;
+mod paint;
+mod pictures;
 mod random;
 mod run;
 mod sample;
@@ -16,12 +21,27 @@ mod spoilt;
 mod tally;
 
 pub use bench::{bytes_of, MAX_MEMORY, MAX_OBJECTS, MAX_SIDE};
+pub use drawing::drawing;
 pub use handle::STOCK;
-pub use random::script;
 pub use run::{run, run_handles};
 pub use sample::sample;
+pub use script::picture;
 
-/// What is printed for the script.
-pub fn answers(script: &[u8]) -> String {
-    script::answered(script, &mut tally::Tally::new()).text()
+use tally::Tally;
+
+/// The random script that a seed makes.
+pub fn script(seed: u64) -> Vec<u8> {
+    random::script(seed, &mut Tally::new())
+}
+
+/// What is printed for the script; an error where a sum of the original
+/// overflows.
+pub fn answers(script: &[u8]) -> Result<String, String> {
+    Ok(script::answered(script, &mut Tally::new())?.text())
+}
+
+/// What is printed for a script without such a sum.
+#[cfg(test)]
+fn printed(script: &[u8]) -> String {
+    answers(script).expect("no sum overflows")
 }

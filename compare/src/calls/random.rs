@@ -1,17 +1,23 @@
 //! Random call scripts: calls that follow what is live on a bench.
 
 use super::bench::{bytes_of, Bench, MAX_OBJECTS, MAX_SIDE};
-use super::call::Call;
-use super::handle::{a_dc, any_object, selectable};
+use super::call::{Call, MAX_UNITS};
+use super::handle::{a_dc, any_object, dc_for, selectable, source, with_surface};
+use super::paint::Place;
 use super::script::{Header, MOST_PANEL, MOST_STORE};
 use super::spoilt::spoil;
+use super::tally::Tally;
+use crate::overflow::Overflow;
+use crate::random::{code, colorref, unit, word};
 use crate::rng::Rng;
+use crate::span::{moved, near, outline, span, Span};
 
 /// More objects than a bench can hold.
 const CROWD: usize = 300;
 
 /// The script that the seed makes: mostly 60 to 400 calls on a bench that opens.
-pub fn script(seed: u64) -> Vec<u8> {
+/// Of the tally only the calls that are dropped.
+pub fn script(seed: u64, tally: &mut Tally) -> Vec<u8> {
     let mut rng = Rng::new(seed);
     let header = header(&mut rng);
     let goal = goal(&mut rng);
@@ -21,35 +27,40 @@ pub fn script(seed: u64) -> Vec<u8> {
         _ => rng.between(60, 400),
     };
     let (_, mut bench) = header.open();
-    let calls = calls(&mut rng, &mut bench, goal, count as usize, |_, _| true);
+    let (calls, dropped) = calls(&mut rng, &mut bench, goal, count as usize, |_, _| true);
+    tally.drop_some(dropped);
     spoil(&mut rng, header, &calls)
 }
 
 /// Calls on the bench, which performs them, about a number of live objects that
-/// changes at times. Those that are not wanted are left out.
+/// changes at times. Those that are not wanted are left out, and dropped those
+/// where a sum of the original overflows; their number.
 pub fn calls(
     rng: &mut Rng,
     bench: &mut Bench,
     mut goal: usize,
     count: usize,
     wanted: impl Fn(&Bench, &Call) -> bool,
-) -> Vec<Call> {
-    let mut calls = Vec::new();
+) -> (Vec<Call>, u64) {
+    let (mut calls, mut dropped) = (Vec::new(), 0);
     while calls.len() < count {
         if rng.one_in(120) {
             goal = self::goal(rng);
         }
         let call = call(rng, bench, goal);
-        if wanted(bench, &call) {
-            bench.perform(&call);
-            calls.push(call);
+        if !wanted(bench, &call) {
+            continue;
+        }
+        match bench.perform(&call) {
+            Ok(_) => calls.push(call),
+            Err(Overflow) => dropped += 1,
         }
     }
-    calls
+    (calls, dropped)
 }
 
 fn goal(rng: &mut Rng) -> usize {
-    rng.pick(&[4, 12, 30, 60, CROWD, CROWD])
+    rng.pick(&[6, 12, 20, 30, 30, 60, CROWD])
 }
 
 /// A header that opens.
@@ -58,14 +69,14 @@ fn header(rng: &mut Rng) -> Header {
         0 => (240, 320),
         1 => (MAX_SIDE.into(), rng.between(1, 128)),
         2 => (rng.between(1, 128), MAX_SIDE.into()),
-        3..=6 => (1, 1),
+        3 => (1, 1),
         _ => (rng.between(1, 24), rng.between(1, 24)),
     };
     let (width, height) = (width as u32, height as u32);
     let more = match rng.below(32) {
         0 => MOST_PANEL.into(),
-        1..=3 => rng.between(1, 4000),
-        4..=15 => rng.between(1, 9),
+        1..=9 => rng.between(1, 4000),
+        10..=17 => rng.between(1, 9),
         _ => 0,
     };
     let panel_len = (bytes_of(width, height) as u32 + more as u32).min(MOST_PANEL);
@@ -78,9 +89,9 @@ fn store_len(rng: &mut Rng) -> u32 {
     let len = match rng.below(48) {
         0 => rng.between(70_000, MOST_STORE.into()),
         1 => MOST_STORE.into(),
-        2..=5 => rng.pick(&[2, 3, 4, 12, 13, 8194, 8195]),
-        6..=12 => rng.between(2, 64),
-        13..=28 => rng.between(64, 2000),
+        2..=4 => rng.pick(&[2, 3, 4, 12, 13, 8194, 8195]),
+        5..=8 => rng.between(2, 64),
+        9..=18 => rng.between(64, 2000),
         _ => rng.between(2000, 70_000),
     };
     len as u32
@@ -98,18 +109,24 @@ fn call(rng: &mut Rng, bench: &Bench, goal: usize) -> Call {
     // On the way to a crowd few bitmaps, which may not fit the store.
     let bitmap = if goal == CROWD && live < MAX_OBJECTS { create / 2 } else { 3 * create };
     let kinds = [
-        (0x01, create),
+        (0x01, 2 * create),
         (0x02, bitmap),
         (0x03, create),
         (0x04, create),
-        (0x05, create),
+        (0x05, create / 2),
         (0x06, 3 * delete),
         (0x07, 2 * delete),
         (0x08, 60),
-        (0x09, 10),
+        (0x09, 30),
         (0x0A, 8),
         (0x0B, 8),
         (0x0C, 8),
+        (0x0D, 40),
+        (0x0E, 36),
+        (0x0F, 36),
+        (0x10, 4),
+        (0x11, 10),
+        (0x12, 80),
     ];
     let kind = rng.weighted(&kinds);
     of_kind(rng, bench, kind)
@@ -122,16 +139,25 @@ fn of_kind(rng: &mut Rng, bench: &Bench, kind: u8) -> Call {
             let (width, height) = sides(rng, bench);
             Call::CreateCompatibleBitmap { width, height }
         }
-        0x03 => Call::CreateSolidBrush { color: color(rng) },
-        0x04 => Call::CreatePen { color: color(rng), width: number(rng) },
+        0x03 => Call::CreateSolidBrush { color: colorref(rng) },
+        0x04 => Call::CreatePen { color: colorref(rng), width: number(rng) },
         0x05 => Call::CreateFont { height: number(rng) as i32 },
         0x06 => Call::Delete { handle: any_object(rng, bench) },
         0x07 => Call::Remove { handle: any_object(rng, bench) },
-        0x08 => Call::Select { dc: a_dc(rng, bench), object: selectable(rng, bench) },
-        0x09 => Call::SetTextColor { dc: a_dc(rng, bench), color: color(rng) },
+        0x08 => {
+            let object = selectable(rng, bench);
+            Call::Select { dc: dc_for(rng, bench, object), object }
+        }
+        0x09 => Call::SetTextColor { dc: with_surface(rng, bench), color: colorref(rng) },
         0x0A => Call::SetTextAlign { dc: a_dc(rng, bench), align: number(rng) },
-        0x0B => Call::SetBkColor { dc: a_dc(rng, bench), color: color(rng) },
+        0x0B => Call::SetBkColor { dc: a_dc(rng, bench), color: colorref(rng) },
         0x0C => Call::SetBkMode { dc: a_dc(rng, bench), transparent: rng.below(2) as u32 },
+        0x0D => pattern_fill(rng, bench),
+        0x0E => rectangle(rng, bench),
+        0x0F => text(rng, bench),
+        0x10 => Call::PanelFill { word: word(rng).into() },
+        0x11 => resize(rng, bench),
+        0x12 => blit(rng, bench),
         byte => unreachable!("no call {byte:02x}"),
     }
 }
@@ -139,14 +165,14 @@ fn of_kind(rng: &mut Rng, bench: &Bench, kind: u8) -> Call {
 /// A bitmap's sides: small, as much as is left or a little more, at the limits,
 /// past them.
 fn sides(rng: &mut Rng, bench: &Bench) -> (u32, u32) {
-    let small = |rng: &mut Rng| rng.between(1, 12) as u32;
+    let small = |rng: &mut Rng| rng.between(1, 16) as u32;
     let limit = [0, 1, 4095, 4096, 4097, 0x1_0000, 0x1_0001, 0x8000_0000, u32::MAX];
     let (width, height) = match rng.below(24) {
-        0..=2 => (rng.below(3) as u32, rng.below(3) as u32),
-        3..=6 => just(rng, bench.left()),
-        7 => (rng.pick(&limit), rng.pick(&limit)),
-        8 | 9 => (rng.pick(&limit), small(rng)),
-        10 => (1, rng.between(1, 4096) as u32),
+        0 | 1 => (rng.below(3) as u32, rng.below(3) as u32),
+        2 | 3 => just(rng, bench.left()),
+        4 => (rng.pick(&limit), rng.pick(&limit)),
+        5 | 6 => (rng.pick(&limit), small(rng)),
+        7 => (1, rng.between(1, 4096) as u32),
         _ => (small(rng), small(rng)),
     };
     if rng.one_in(2) {
@@ -164,12 +190,6 @@ fn just(rng: &mut Rng, left: usize) -> (u32, u32) {
     (width.min(MAX_SIDE), words / width + rng.below(2) as u32)
 }
 
-/// Any number of 32 bits, half of the time without the top byte.
-fn color(rng: &mut Rng) -> u32 {
-    let top = if rng.one_in(2) { 0x00FF_FFFF } else { u32::MAX };
-    rng.next() as u32 & top
-}
-
 /// A width, height or alignment: mostly small, or at the ends of 32 bits.
 fn number(rng: &mut Rng) -> u32 {
     match rng.below(6) {
@@ -179,14 +199,122 @@ fn number(rng: &mut Rng) -> u32 {
     }
 }
 
+/// The sides to draw on: those of a DC's surface, else the panel's.
+fn sides_of(bench: &Bench, dc: u32) -> [i64; 2] {
+    let place = bench.place(dc).unwrap_or(Place::Panel);
+    bench.sides(place).map(|side| i64::from(side).max(1))
+}
+
+fn pattern_fill(rng: &mut Rng, bench: &Bench) -> Call {
+    let dc = with_surface(rng, bench);
+    let [width, height] = sides_of(bench, dc);
+    let whole = rng.one_in(8);
+    let (x, y) = (span(rng, width, width, whole), span(rng, height, height, whole));
+    Call::PatternFill { dc, x: x.begin, y: y.begin, w: x.len, h: y.len, code: code(rng) }
+}
+
+fn rectangle(rng: &mut Rng, bench: &Bench) -> Call {
+    let dc = with_surface(rng, bench);
+    let [width, height] = sides_of(bench, dc);
+    let (x, y) = if rng.one_in(2) {
+        (outline(rng, width), outline(rng, height))
+    } else {
+        (short(rng, width), short(rng, height))
+    };
+    Call::Rectangle { dc, x: x.begin, y: y.begin, w: x.len, h: y.len }
+}
+
+/// A stretch that begins on the side or just before it.
+fn short(rng: &mut Rng, side: i64) -> Span {
+    let (begin, len) = (rng.between(-2, side - 1), rng.between(1, side + 2));
+    Span { begin: begin as i32, from: 0, len: len as i32 }
+}
+
+fn text(rng: &mut Rng, bench: &Bench) -> Call {
+    let dc = with_surface(rng, bench);
+    let [width, height] = sides_of(bench, dc);
+    let units = units(rng, width);
+    let (x, y) = (near(rng, width, 6 * units.len() as i64), near(rng, height, 8));
+    Call::text(dc, x, y, units)
+}
+
+/// A few units, some more than fit the surface, seldom about as many as are
+/// accepted or can be.
+fn units(rng: &mut Rng, width: i64) -> Vec<u16> {
+    let count = match rng.below(160) {
+        0 => return many(rng),
+        1..=8 => 0,
+        9..=14 => rng.between(1, 300),
+        15..=50 => rng.between(1, width / 6 + 4),
+        _ => rng.between(1, 12),
+    };
+    (0..count).map(|_| unit(rng)).collect()
+}
+
+/// About as many units as are accepted or can be, going round a few; at times
+/// with a stop.
+fn many(rng: &mut Rng) -> Vec<u16> {
+    let count = rng.pick(&[65_534, 65_535, 65_536, 65_537, MAX_UNITS - 1, MAX_UNITS]);
+    let few: Vec<u16> = (0..rng.between(1, 5)).map(|_| unit(rng)).collect();
+    let mut units: Vec<u16> = few.into_iter().cycle().take(count).collect();
+    if rng.one_in(2) {
+        units[rng.pick(&[0, 5, 65_533, 65_535, 65_536]).min(count - 1)] = 0;
+    }
+    units
+}
+
+/// Mostly sides that the panel memory has room for; else a little more, the
+/// present ones, 0, past the limit.
+fn resize(rng: &mut Rng, bench: &Bench) -> Call {
+    let [width, height] = bench.sides(Place::Panel);
+    let over = rng.pick(&[4097, 5000, 0x1_0000, 0x8000_0000, u32::MAX]);
+    let mut small = || rng.between(1, 24) as u32;
+    let (a, b) = (small(), small());
+    let (width, height) = match rng.below(16) {
+        0 => rng.pick(&[(0, b), (a, 0), (0, 0), (0, over)]),
+        1 => (width, height),
+        2 | 3 => rng.pick(&[(over, b), (a, over), (over, over)]),
+        4 | 5 => just(rng, bench.panel_len()),
+        6 => (height, width),
+        7 => rng.pick(&[(width + 1, height), (width, height + 1)]),
+        8 => rng.pick(&[(width.div_ceil(2), height), (width, height.div_ceil(2))]),
+        _ => (a, b),
+    };
+    Call::Resize { width, height }
+}
+
+/// A blit; within one surface mostly onto a part of its source.
+fn blit(rng: &mut Rng, bench: &Bench) -> Call {
+    let dc = with_surface(rng, bench);
+    let source = source(rng, bench, dc);
+    let ([width, height], [src_w, src_h]) = (sides_of(bench, dc), sides_of(bench, source));
+    let (x, y) = if bench.place(dc) == bench.place(source) && !rng.one_in(6) {
+        (moved(rng, width), moved(rng, height))
+    } else {
+        let whole = rng.one_in(8);
+        (span(rng, width, src_w, whole), span(rng, height, src_h, whole))
+    };
+    Call::Blit {
+        dc,
+        x: x.begin,
+        y: y.begin,
+        w: x.len,
+        h: y.len,
+        source,
+        sx: x.from,
+        sy: y.from,
+        code: code(rng),
+    }
+}
+
 #[cfg(test)]
 mod tests {
     use super::*;
     use crate::calls::script::answered;
-    use crate::calls::tally::Tally;
 
     #[test]
     fn a_seed_makes_one_script() {
+        let script = |seed| script(seed, &mut Tally::new());
         assert_eq!(script(7), script(7));
         assert_ne!(script(7), script(8));
     }
@@ -195,9 +323,11 @@ mod tests {
     fn every_call_refusal_and_answer_occurs() {
         let mut tally = Tally::new();
         for seed in 0..400 {
-            answered(&script(seed), &mut tally);
+            let script = script(seed, &mut tally);
+            assert!(answered(&script, &mut tally).is_ok());
         }
         assert!(tally.least() >= 5, "{tally}");
+        assert!(tally.share_changed() > 60, "{tally}");
         assert_eq!(tally.most(), MAX_OBJECTS, "{tally}");
     }
 

@@ -1,83 +1,135 @@
 //! The fixed call script that is replayed at every change.
 
+use pocket_kernel::gdi::rop3::SRCINVERT;
+use pocket_kernel::gdi::GDI_SCREEN_DC;
+
 use super::bench::{bytes_of, Bench, MAX_SIDE};
 use super::call::Call;
-use super::examples::{self, HEADER};
+use super::examples::{self, bitmap, delete, select, List, ROOM};
+use super::pictures;
 use super::random;
-use super::script::answered;
+use super::script::{answered, Header};
 use super::tally::Tally;
 use crate::rng::Rng;
 
 /// Random calls between the examples.
 const RANDOM: usize = 3000;
+/// The units of the longest text among them.
+const LONGEST_TEXT: usize = 60;
 /// Bytes at the store's end that no random call touches, so that the bitmaps of
 /// the last examples are seen to be black.
-const UNTOUCHED: u64 = 4000;
+const UNTOUCHED: u64 = 8000;
+/// The sides of the bitmap that shows what the random calls drew.
+const SHOWN: u32 = 32;
+
+/// The sample's bench: bytes past the panel, and a store for the bitmaps that
+/// stay and for the last examples.
+const HEADER: Header = Header {
+    panel_len: 963,
+    store_len: 2 + 2 * SHOWN * SHOWN + pictures::BYTES + ROOM,
+    width: 24,
+    height: 16,
+    fill: 0xA5,
+};
 
 /// The script, what is printed for it, and its tally. It ends with a bad call.
 pub fn sample() -> (Vec<u8>, String, Tally) {
-    let mut calls = examples::calls();
-    let (_, mut bench) = HEADER.open();
-    for call in &calls {
-        bench.perform(call);
-    }
-    calls.extend(random::calls(&mut Rng::new(1), &mut bench, 30, RANDOM, keeps_the_end));
-    let is_bitmap = |handle: &&u32| bench.gdi().bitmap(**handle).is_some();
-    let bitmaps = bench.created().iter().filter(is_bitmap);
-    calls.extend(bitmaps.map(|&handle| Call::Delete { handle }));
-    calls.extend(examples::room(bench.next()));
-    calls.push(Call::SetBkMode { dc: 0, transparent: 2 });
-    let mut script = HEADER.bytes();
-    calls.iter().for_each(|call| call.write(&mut script));
-    let mut tally = Tally::new();
-    let text = answered(&script, &mut tally).text();
-    (script, text, tally)
+    script_with(RANDOM)
 }
 
-fn keeps_the_end(bench: &Bench, call: &Call) -> bool {
+/// The same with so many random calls.
+fn script_with(random: usize) -> (Vec<u8>, String, Tally) {
+    let mut made = Made { calls: Vec::new(), bench: HEADER.open().1 };
+    made.perform(examples::calls());
+    let (calls, _) = random::calls(&mut Rng::new(1), &mut made.bench, 30, random, wanted);
+    made.calls.extend(calls);
+    made.perform(shown(&made.bench));
+    made.perform(pictures::calls(made.bench.next()));
+    assert_eq!(made.bench.left(), ROOM as usize, "what is left for the last examples");
+    made.perform(examples::room(made.bench.next()));
+    made.calls.push(Call::SetBkMode { dc: 0, transparent: 2 });
+    let mut script = HEADER.bytes();
+    made.calls.iter().for_each(|call| call.write(&mut script));
+    let mut tally = Tally::new();
+    let answered = answered(&script, &mut tally).expect("no sum of these calls overflows");
+    (script, answered.text(), tally)
+}
+
+/// Calls, and the bench after them.
+struct Made {
+    calls: Vec<Call>,
+    bench: Bench,
+}
+
+impl Made {
+    fn perform(&mut self, calls: Vec<Call>) {
+        for call in calls {
+            assert!(self.bench.perform(&call).is_ok(), "a sum overflows: {call}");
+            self.calls.push(call);
+        }
+    }
+}
+
+/// Whether a random call has its place in the sample.
+fn wanted(bench: &Bench, call: &Call) -> bool {
     match *call {
         Call::CreateCompatibleBitmap { width, height } if width.max(height) <= MAX_SIDE => {
             let (bytes, left) = (bytes_of(width.max(1), height.max(1)), bench.left() as u64);
             bytes > left || left - bytes >= UNTOUCHED
         }
+        Call::Text { ref units, .. } => units.as_slice().len() <= LONGEST_TEXT,
         _ => true,
     }
+}
+
+/// Gathers what is on the panel and on every bitmap in one bitmap, and deletes
+/// all other objects.
+fn shown(bench: &Bench) -> Vec<Call> {
+    let is_bitmap = |handle: &u32| bench.gdi().bitmap(*handle).is_some();
+    let (bitmaps, others): (Vec<u32>, Vec<u32>) =
+        bench.created().iter().partition(|h| is_bitmap(h));
+    let mut list = List { calls: others.into_iter().map(delete).collect(), next: bench.next() };
+    let [dc, source] = [(); 2].map(|()| list.create(Call::CreateMemoryDc {}));
+    let all = list.create(bitmap(SHOWN, SHOWN));
+    list.add([select(dc, all)]);
+    let side = SHOWN as i32;
+    let gather = |list: &mut List, source: u32, at: i32| {
+        let (x, y) = (at % 5, at % 7);
+        let (w, h, sx, sy, code) = (side, side, 0, 0, SRCINVERT);
+        list.add([Call::Blit { dc, x, y, w, h, source, sx, sy, code }]);
+    };
+    gather(&mut list, GDI_SCREEN_DC, 0);
+    for (&bitmap, at) in bitmaps.iter().zip(1..) {
+        list.add([select(source, bitmap)]);
+        gather(&mut list, source, at);
+    }
+    list.add(bitmaps.into_iter().map(delete));
+    list.add([delete(dc), delete(source)]);
+    list.calls
 }
 
 #[cfg(test)]
 mod tests {
     use super::*;
     use crate::calls::bench::MAX_OBJECTS;
-    use crate::crc::crc32;
+
+    /// The last lines of `room`, the bad call, and the panel.
+    const END: &str = "\n0d 0\n06 0 1\nbad call\npanel 24 16 frames ";
 
     #[test]
     fn the_sample_has_everything() {
         let (script, text, tally) = sample();
-        assert!(tally.least_of_calls() >= 5, "{tally}");
+        assert!(tally.least_of_calls() >= 2, "{tally}");
+        assert!(tally.share_changed() > 50, "{tally}");
         assert_eq!(tally.most(), MAX_OBJECTS);
-        assert!(script.len() + text.len() < 200_000);
-        assert!(text.contains("\n02 7 00000000\nbad call\npanel 24 16 frames 0 next dead"));
-        let store = crc32(&vec![0; HEADER.store_len as usize]);
-        assert!(text.ends_with(&format!(" bitmap 1 5 0\ncrc e9d5bf6d {store:08x}\n")));
+        assert!(script.len() < 120_000 && tally.calls() <= 6000);
+        assert!(text.contains(END));
     }
 
     #[test]
     fn the_examples_have_everything() {
-        let mut calls = examples::calls();
-        let (_, mut bench) = HEADER.open();
-        for call in &calls {
-            bench.perform(call);
-        }
-        assert!(bench.created().is_empty());
-        calls.extend(examples::room(bench.next()));
-        let mut script = HEADER.bytes();
-        calls.iter().for_each(|call| call.write(&mut script));
-        let mut tally = Tally::new();
-        let text = answered(&script, &mut tally).text();
+        let (_, text, tally) = script_with(0);
         assert!(tally.least_of_calls() >= 1, "{tally}");
-        // No byte of the store is left, and all of them are 0.
-        assert!(text.contains("\n02 7 00000000\n02 0 dead1117\n02 7 00000000\npanel 24 16 "));
-        let store = crc32(&vec![0; HEADER.store_len as usize]);
-        assert!(text.ends_with(&format!(" bitmap 1 5 0\ncrc e9d5bf6d {store:08x}\n")));
+        assert!(text.contains(END));
     }
 }

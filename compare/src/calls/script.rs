@@ -4,6 +4,7 @@ use super::bench::Bench;
 use super::call::Call;
 use super::tally::Tally;
 use crate::argument::Argument;
+use crate::overflow::Overflow;
 
 const MAGIC: &[u8; 4] = b"GDI1";
 /// The bytes of a header.
@@ -47,7 +48,7 @@ impl Header {
         bytes
     }
 
-    fn is_served(&self) -> bool {
+    pub fn is_served(&self) -> bool {
         self.panel_len <= MOST_PANEL && self.store_len <= MOST_STORE
     }
 
@@ -64,57 +65,92 @@ pub struct Answered {
 }
 
 impl Answered {
-    fn begun(line: String, tally: &mut Tally) -> Self {
-        tally.begin(&line);
-        Self { lines: vec![line], calls: Vec::new() }
-    }
-
-    /// Performs calls up to the end or a bad one.
-    fn perform(&mut self, mut script: &[u8], bench: &mut Bench, tally: &mut Tally) {
-        while !script.is_empty() {
-            let Some(call) = Call::read(&mut script) else {
-                self.lines.push("bad call".into());
-                return tally.bad_call();
-            };
-            let outcome = bench.perform(&call);
-            tally.count(&call, &outcome, bench);
-            self.lines.push(format!("{:02x} {outcome}", call.byte()));
-            self.calls.push(call);
-        }
-    }
-
     /// The lines as they are printed.
     pub fn text(&self) -> String {
         self.lines.iter().flat_map(|line| [line, "\n"]).collect()
     }
 }
 
-/// Reads a script and has the original perform it.
-pub fn answered(script: &[u8], tally: &mut Tally) -> Answered {
-    let mut rest = script;
-    let header = match Header::read(&mut rest) {
-        Some(_) if script.len() > LONGEST => None,
-        read => read,
-    };
-    let header = match header {
-        None => return Answered::begun("bad script".into(), tally),
-        Some(header) if !header.is_served() => return Answered::begun("too large".into(), tally),
-        Some(header) => header,
-    };
-    let (refusal, mut bench) = header.open();
-    let mut answered = Answered::begun(format!("open {refusal}"), tally);
-    if refusal == 0 {
-        answered.perform(rest, &mut bench, tally);
+/// A script under way: what it has come to so far.
+struct Session {
+    answered: Answered,
+    /// The bench, if the header is a good one, and whether it was opened.
+    bench: Option<Bench>,
+    opened: bool,
+}
+
+impl Session {
+    /// A session that has come to its first line.
+    fn begun(line: String, bench: Option<Bench>, tally: &mut Tally) -> Self {
+        tally.begin(&line);
+        let opened = line == "open 0";
+        Self { answered: Answered { lines: vec![line], calls: Vec::new() }, bench, opened }
     }
-    tally.end(&bench);
-    answered.lines.extend(bench.state());
-    answered
+
+    /// Reads a script and has the original perform it; an error where a sum of
+    /// the original overflows.
+    fn run(script: &[u8], tally: &mut Tally) -> Result<Self, String> {
+        let mut rest = script;
+        let header = Header::read(&mut rest).filter(|_| script.len() <= LONGEST);
+        let (refusal, bench) = match header {
+            None => return Ok(Self::begun("bad script".into(), None, tally)),
+            Some(header) if !header.is_served() => {
+                return Ok(Self::begun("too large".into(), None, tally));
+            }
+            Some(header) => header.open(),
+        };
+        let mut session = Self::begun(format!("open {refusal}"), Some(bench), tally);
+        if session.opened {
+            session.perform(rest, tally)?;
+        }
+        Ok(session)
+    }
+
+    /// Performs calls up to the end or a bad one.
+    fn perform(&mut self, mut script: &[u8], tally: &mut Tally) -> Result<(), String> {
+        let bench = self.bench.as_mut().expect("a bench is open");
+        let Answered { lines, calls } = &mut self.answered;
+        while !script.is_empty() {
+            let Some(call) = Call::read(&mut script) else {
+                lines.push("bad call".into());
+                tally.bad_call();
+                return Ok(());
+            };
+            let outcome = bench
+                .perform(&call)
+                .map_err(|Overflow| format!("the original's sums overflow, no answer: {call}"))?;
+            tally.count(&call, &outcome, bench);
+            lines.push(format!("{:02x} {outcome}", call.byte()));
+            calls.push(call);
+        }
+        Ok(())
+    }
+}
+
+/// What is printed for a script; an error where a sum of the original overflows.
+pub fn answered(script: &[u8], tally: &mut Tally) -> Result<Answered, String> {
+    let Session { mut answered, bench, .. } = Session::run(script, tally)?;
+    if let Some(bench) = bench {
+        tally.end(&bench);
+        answered.lines.extend(bench.state());
+    }
+    Ok(answered)
+}
+
+/// The final panel as a P6 picture; the first line alone if no bench is open.
+pub fn picture(script: &[u8]) -> Result<Vec<u8>, String> {
+    let Session { answered, bench, opened } = Session::run(script, &mut Tally::new())?;
+    Ok(match bench {
+        Some(bench) if opened => bench.picture(),
+        _ => format!("{}\n", answered.lines[0]).into_bytes(),
+    })
 }
 
 #[cfg(test)]
 mod tests {
     use super::*;
-    use crate::calls::answers;
+    use crate::calls::printed;
+    use pocket_kernel::gdi::GDI_SCREEN_DC;
 
     const SMALL: Header = Header { panel_len: 8, store_len: 2, width: 2, height: 2, fill: 0xFF };
 
@@ -137,52 +173,84 @@ mod tests {
     fn a_short_or_wrong_header_is_a_bad_script() {
         let bytes = SMALL.bytes();
         for len in 0..HEADER {
-            assert_eq!(answers(&bytes[..len]), "bad script\n");
+            assert_eq!(printed(&bytes[..len]), "bad script\n");
         }
         let mut long = bytes.clone();
         long.resize(LONGEST + 1, 1);
-        assert_eq!(answers(&long), "bad script\n");
+        assert_eq!(printed(&long), "bad script\n");
         let large = Header { panel_len: u32::MAX, ..SMALL }.bytes();
-        assert_eq!(answers(&large[..20]), "bad script\n");
+        assert_eq!(printed(&large[..20]), "bad script\n");
         for at in 0..4 {
             let mut large = large.clone();
             large[at] ^= 0x20;
-            assert_eq!(answers(&large), "bad script\n");
+            assert_eq!(printed(&large), "bad script\n");
         }
     }
 
     #[test]
     fn a_large_header_is_not_opened() {
         let most = Header { panel_len: MOST_PANEL, store_len: MOST_STORE, ..SMALL };
-        assert!(answers(&most.bytes()).starts_with("open 0\npanel 2 2 "));
+        assert!(printed(&most.bytes()).starts_with("open 0\npanel 2 2 "));
         let panel = Header { panel_len: MOST_PANEL + 1, ..SMALL };
         let store = Header { store_len: MOST_STORE + 1, ..SMALL };
         let sides = Header { width: 0, panel_len: u32::MAX, ..SMALL };
         for header in [panel, store, sides] {
-            assert_eq!(answers(&header.bytes()), "too large\n");
+            assert_eq!(printed(&header.bytes()), "too large\n");
         }
     }
 
     #[test]
     fn an_opened_bench_and_a_refused_one() {
         // 0 eight and two times, then 0xFF as often.
-        assert_eq!(answers(&SMALL.bytes()), state("open 0", "2 2", "6522df69 41d912ff"));
+        assert_eq!(printed(&SMALL.bytes()), state("open 0", "2 2", "6522df69 41d912ff"));
         let refused = state("open 6", "0 0", "2144df1c ffff0000");
         let script = [Header { height: 4097, ..SMALL }.bytes(), vec![0x01, 0xFF]].concat();
-        assert_eq!(answers(&script), refused);
+        assert_eq!(printed(&script), refused);
         let script = Header { height: 3, ..SMALL }.bytes();
-        assert_eq!(answers(&script), refused.replace("open 6", "open 7"));
+        assert_eq!(printed(&script), refused.replace("open 6", "open 7"));
     }
 
     #[test]
     fn a_bad_call_ends_the_calls() {
         for bad in [[0x0D, 0x01].as_slice(), &[0x00, 0x01], &[0x05, 0, 0, 0]] {
             let script = [SMALL.bytes().as_slice(), &[0x01], bad].concat();
-            let answered = answered(&script, &mut Tally::new());
+            let answered = answered(&script, &mut Tally::new()).unwrap();
             assert_eq!(answered.lines[..3], ["open 0", "01 0 dead1000", "bad call"]);
             assert!(answered.lines[3].ends_with("next dead1001 stock 0 count 1"));
             assert_eq!(answered.lines.len(), 7);
             assert_eq!(answered.calls.len(), 1);
         }
+    }
+
+    #[test]
+    fn a_call_without_an_answer_ends_after_its_number() {
+        let calls = [Call::PanelFill { word: 1 }, Call::Resize { width: 0, height: 0 }];
+        let mut script = SMALL.bytes();
+        calls.iter().for_each(|call| call.write(&mut script));
+        Call::text(GDI_SCREEN_DC, 0, 0, vec![0x41; 2]).write(&mut script);
+        Call::text(0, 0, 0, vec![0x41; 2]).write(&mut script);
+        let lines = "open 0\n10 0\n11 0\n0f 0 12\n0f 1 0\npanel 2 2 frames 2 ";
+        assert!(printed(&script).starts_with(lines));
+    }
+
+    #[test]
+    fn a_picture_is_the_final_panel() {
+        let fill = Call::PanelFill { word: 0x6162 }.bytes();
+        let script = [SMALL.bytes(), Call::Resize { width: 1, height: 1 }.bytes(), fill].concat();
+        assert_eq!(picture(&script).unwrap(), b"P6\n1 1\n255\nc,\x10");
+        // Also of the panel before a bad call.
+        let script = [script, vec![0x00, 0x10]].concat();
+        assert_eq!(picture(&script).unwrap(), b"P6\n1 1\n255\nc,\x10");
+        let black = [b"P6\n2 2\n255\n".as_slice(), &[0; 12]].concat();
+        assert_eq!(picture(&SMALL.bytes()).unwrap(), black);
+    }
+
+    #[test]
+    fn there_is_no_picture_of_a_bench_that_is_not_open() {
+        assert_eq!(picture(b"GDI1").unwrap(), b"bad script\n");
+        let large = Header { panel_len: u32::MAX, ..SMALL };
+        assert_eq!(picture(&large.bytes()).unwrap(), b"too large\n");
+        let refused = Header { store_len: 1, ..SMALL };
+        assert_eq!(picture(&refused.bytes()).unwrap(), b"open 7\n");
     }
 }

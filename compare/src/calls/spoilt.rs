@@ -1,9 +1,9 @@
 //! Random scripts that are not as they should be: bad headers, refused opens,
 //! bad calls.
 
-use pocket_kernel::gdi::{GDI_SCREEN_DC, STOCK_WHITE_BRUSH};
+use pocket_kernel::gdi::{rop3, GDI_SCREEN_DC, STOCK_WHITE_BRUSH};
 
-use super::call::{Call, KINDS};
+use super::call::{Call, KINDS, MAX_UNITS};
 use super::script::{Header, HEADER, MOST_PANEL, MOST_STORE};
 use crate::rng::Rng;
 
@@ -58,11 +58,17 @@ fn refused(rng: &mut Rng, mut header: Header) -> Header {
 
 /// Ends the script with a bad call, and mostly with bytes that none may read.
 fn end(rng: &mut Rng, script: &mut Vec<u8>) {
-    match rng.below(3) {
-        0 => script.push(unknown(rng)),
-        1 => {
+    let high = rng.pick(&[0x0001_0000, 0x0100_0000, 0x8000_0000, 0xFFFF_0000]);
+    match rng.below(16) {
+        0..=4 => script.push(unknown(rng)),
+        5..=8 => {
             let transparent = rng.pick(&[2, 3, 0x100, 0x0001_0000, u32::MAX]);
             Call::SetBkMode { dc: GDI_SCREEN_DC, transparent }.write(script);
+        }
+        9 | 10 => Call::PanelFill { word: high | rng.next() as u32 & 0xFFFF }.write(script),
+        11 if rng.one_in(8) => {
+            let count = MAX_UNITS as i64 + rng.between(1, 3);
+            Call::text(GDI_SCREEN_DC, 0, 0, vec![0x41; count as usize]).write(script);
         }
         _ => return cut_short(rng, script),
     }
@@ -81,10 +87,16 @@ fn unknown(rng: &mut Rng) -> u8 {
 
 /// Adds a call without its last bytes.
 fn cut_short(rng: &mut Rng, script: &mut Vec<u8>) {
-    let call = match rng.below(3) {
+    let dc = GDI_SCREEN_DC;
+    let (x, y, w, h, sx, sy, code) = (0, 0, 2, 2, 0, 1, rop3::SRCCOPY);
+    let call = match rng.below(7) {
         0 => Call::CreateFont { height: 3 },
-        1 => Call::Select { dc: GDI_SCREEN_DC, object: STOCK_WHITE_BRUSH },
-        _ => Call::SetBkMode { dc: GDI_SCREEN_DC, transparent: 1 },
+        1 => Call::Select { dc, object: STOCK_WHITE_BRUSH },
+        2 => Call::SetBkMode { dc, transparent: 1 },
+        3 => Call::Rectangle { dc, x, y, w, h },
+        4 => Call::PanelFill { word: 0xFFFF },
+        5 => Call::Blit { dc, x, y, w, h, source: dc, sx, sy, code },
+        _ => Call::text(dc, x, y, vec![0x41, 0x42]),
     };
     let bytes = call.bytes();
     let len = 1 + rng.below(bytes.len() as u64 - 1);
@@ -94,7 +106,7 @@ fn cut_short(rng: &mut Rng, script: &mut Vec<u8>) {
 #[cfg(test)]
 mod tests {
     use super::*;
-    use crate::calls::answers;
+    use crate::calls::printed;
 
     const HEADER: Header = Header { panel_len: 9, store_len: 40, width: 2, height: 2, fill: 1 };
 
@@ -102,12 +114,12 @@ mod tests {
     fn what_is_spoilt_is_bad() {
         let mut rng = Rng::new(1);
         for _ in 0..200 {
-            assert_eq!(answers(&too_large(&mut rng, HEADER).bytes()), "too large\n");
-            let lines = answers(&refused(&mut rng, HEADER).bytes());
+            assert_eq!(printed(&too_large(&mut rng, HEADER).bytes()), "too large\n");
+            let lines = printed(&refused(&mut rng, HEADER).bytes());
             assert!(lines.starts_with("open 6\n") || lines.starts_with("open 7\n"), "{lines}");
             let mut script = HEADER.bytes();
             end(&mut rng, &mut script);
-            assert!(answers(&script).starts_with("open 0\nbad call\npanel 2 2 "), "{script:?}");
+            assert!(printed(&script).starts_with("open 0\nbad call\npanel 2 2 "), "{script:?}");
         }
     }
 }

@@ -5,22 +5,31 @@ use std::fmt;
 
 use pocket_kernel::gdi::{is_stock_handle, GdiObject, GDI_SCREEN_DC};
 
-use super::bench::{Answer, Bench, Outcome};
-use super::call::{Call, KINDS};
+use super::bench::Bench;
+use super::call::{is_drawing, Call, KINDS};
+use super::drawn::Drawn;
+use super::outcome::{Answer, Outcome};
 use crate::counts::Counts;
 
 pub struct Tally {
     /// Scripts by their first line.
     begun: Counts<5>,
     bad_calls: u64,
-    /// Calls and accepted calls, in the order of `KINDS`.
-    kinds: [[u64; 2]; KINDS.len()],
-    refused: Counts<4>,
+    /// Calls, those accepted and those that changed a pixel, in the order of
+    /// `KINDS`.
+    kinds: [[u64; 3]; KINDS.len()],
+    refused: Counts<7>,
+    /// Texts refused with 10.
+    too_long: u64,
     deleted: Counts<3>,
     removed: Counts<6>,
     selected: Counts<4>,
     set: Counts<2>,
-    moved: u64,
+    drawn: Drawn,
+    /// Bitmaps moved down, and those of them that were not all black.
+    moved: [u64; 2],
+    /// Random calls left out since the original's sums overflow.
+    dropped: u64,
     /// The most objects that were live at a time.
     most: usize,
 }
@@ -31,13 +40,16 @@ impl Tally {
             // No memory that the program serves is above open's limit, so 8 is not to be seen.
             begun: Counts::new(["open 0", "open 6", "open 7", "bad script", "too large"]),
             bad_calls: 0,
-            kinds: [[0; 2]; KINDS.len()],
-            refused: Counts::new(["1", "5", "6", "7"]),
+            kinds: [[0; 3]; KINDS.len()],
+            refused: Counts::new(["1", "2", "3", "4", "5", "6", "7"]),
+            too_long: 0,
             deleted: Counts::new(["created", "stock", "absent"]),
             removed: Counts::new(["none", "DC", "bitmap", "brush", "pen", "font"]),
             selected: Counts::new(["nothing", "stock", "live", "gone"]),
             set: Counts::new(["screen", "created"]),
-            moved: 0,
+            drawn: Drawn::new(),
+            moved: [0; 2],
+            dropped: 0,
             most: 0,
         }
     }
@@ -50,20 +62,34 @@ impl Tally {
         self.bad_calls += 1;
     }
 
+    pub fn drop_some(&mut self, calls: u64) {
+        self.dropped += calls;
+    }
+
     pub fn end(&mut self, bench: &Bench) {
-        self.moved += bench.moved;
+        self.moved = [0, 1].map(|at| self.moved[at] + bench.moved[at]);
     }
 
     /// Counts a call, with the bench after it.
     pub fn count(&mut self, call: &Call, outcome: &Outcome, bench: &Bench) {
         self.most = self.most.max(bench.created().len());
         let kind = KINDS.iter().position(|kind| kind.0 == call.byte());
-        let [calls, accepted] = &mut self.kinds[kind.expect("each call has a kind")];
+        let [calls, accepted, changed] = &mut self.kinds[kind.expect("each call has a kind")];
         *calls += 1;
-        if outcome.refusal != 0 {
-            return self.refused.add(&outcome.refusal.to_string());
+        *accepted += u64::from(outcome.refusal == 0);
+        *changed += u64::from(outcome.changed);
+        if call.draws() {
+            self.drawn.count(call, outcome, bench);
         }
-        *accepted += 1;
+        match outcome.refusal {
+            0 => self.count_accepted(call, outcome, bench),
+            10 => self.too_long += 1,
+            number => self.refused.add(&number.to_string()),
+        }
+    }
+
+    /// Counts the answer of an accepted call.
+    fn count_accepted(&mut self, call: &Call, outcome: &Outcome, bench: &Bench) {
         match (call, &outcome.answer) {
             (Call::Delete { handle }, Answer::Flag(deleted)) => {
                 let stock = if is_stock_handle(*handle) { "stock" } else { "created" };
@@ -92,21 +118,32 @@ impl Tally {
     #[cfg(test)]
     pub fn least(&self) -> u64 {
         let calls = self.least_of_calls();
-        calls.min(self.begun.least()).min(self.bad_calls)
+        calls.min(self.begun.least()).min(self.bad_calls).min(self.too_long)
     }
 
-    /// The same without what more than one script is needed for.
+    /// The same without what more than one script or a long text is needed for.
     #[cfg(test)]
     pub fn least_of_calls(&self) -> u64 {
         let answers = [self.refused.least(), self.deleted.least(), self.removed.least()];
-        let others = [self.selected.least(), self.set.least(), self.moved];
-        let kinds = self.kinds.iter().flatten().copied();
-        kinds.chain(answers).chain(others).min().unwrap_or_default()
+        let others = [self.selected.least(), self.set.least(), self.drawn.least()];
+        let kinds = KINDS.iter().zip(self.kinds);
+        let kinds = kinds.flat_map(|((byte, _), [calls, accepted, changed])| {
+            let changed = if is_drawing(*byte) { changed } else { calls };
+            [calls, accepted, changed]
+        });
+        kinds.chain(answers).chain(others).chain(self.moved).min().unwrap_or_default()
     }
 
     #[cfg(test)]
     pub fn most(&self) -> usize {
         self.most
+    }
+
+    /// The share of accepted drawings that changed a pixel, in percent.
+    pub fn share_changed(&self) -> u64 {
+        let drawing = || KINDS.iter().zip(self.kinds).filter(|(kind, _)| is_drawing(kind.0));
+        let sum = |part: usize| drawing().map(|(_, counts)| counts[part]).sum::<u64>();
+        100 * sum(2) / sum(1).max(1)
     }
 }
 
@@ -137,17 +174,23 @@ fn standing(previous: u32, bench: &Bench) -> &'static str {
 
 impl fmt::Display for Tally {
     fn fmt(&self, f: &mut fmt::Formatter<'_>) -> fmt::Result {
-        writeln!(f, "{:30}{:>10}{:>10}", "", "calls", "accepted")?;
-        for ((byte, name), [calls, accepted]) in KINDS.iter().zip(&self.kinds) {
-            writeln!(f, "  {byte:02x} {name:25}{calls:>10}{accepted:>10}")?;
+        writeln!(f, "{:30}{:>10}{:>10}{:>10}", "", "calls", "accepted", "changed")?;
+        for ((byte, name), [calls, accepted, changed]) in KINDS.iter().zip(&self.kinds) {
+            let changed = if is_drawing(*byte) { changed.to_string() } else { String::new() };
+            let line = format!("  {byte:02x} {name:25}{calls:>10}{accepted:>10}{changed:>10}");
+            writeln!(f, "{}", line.trim_end())?;
         }
+        writeln!(f, "accepted drawings that changed a pixel: {} %", self.share_changed())?;
         writeln!(f, "scripts: {}; ended by a bad call: {}", self.begun, self.bad_calls)?;
-        writeln!(f, "refused: {}", self.refused)?;
+        writeln!(f, "refused: {}, 10 {}", self.refused, self.too_long)?;
         writeln!(f, "deleted: {}", self.deleted)?;
         writeln!(f, "removed: {}", self.removed)?;
         writeln!(f, "previously selected: {}", self.selected)?;
         writeln!(f, "settings of DCs: {}", self.set)?;
-        writeln!(f, "bitmaps moved down: {}", self.moved)?;
+        writeln!(f, "{}", self.drawn)?;
+        let [moved, colored] = self.moved;
+        writeln!(f, "bitmaps moved down: {moved}, with colours: {colored}")?;
+        writeln!(f, "dropped, since the original's sums overflow: {}", self.dropped)?;
         write!(f, "most live objects: {}", self.most)
     }
 }

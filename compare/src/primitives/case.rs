@@ -45,7 +45,7 @@ table! {
         0x14 "character" Character { x: i32, y: i32, character: u32, color: u16 }
         0x15 "fill" Fill { x: i32, y: i32, w: i32, h: i32, color: u16 }
         0x16 "outline" Outline { x: i32, y: i32, w: i32, h: i32, color: u16 }
-        0x17 "text" Text { x: i32, y: i32, color: u16, count: u32, stop: u32, units: Units }
+        0x17 "text" Text { x: i32, y: i32, color: u16, count: u32, stop: u32, units: Units<u8> }
         0x18 "lend" Lend { width: u32, height: u32, len: u32 }
         0x19 "blit between" BlitBetween {
             order: u8, width: u16, height: u16, src_w: u16, src_h: u16,
@@ -136,7 +136,7 @@ pub fn generated(len: usize, seed: u32) -> Vec<u8> {
 }
 
 /// A text's units: `count` of them, going round those given, and 0 at `stop`.
-pub fn text(count: u32, stop: u32, units: &Units) -> Vec<u16> {
+pub fn text(count: u32, stop: u32, units: &Units<u8>) -> Vec<u16> {
     let round = units.as_slice().iter().cycle().copied();
     let text = (0..count).zip(round);
     text.map(|(at, unit)| if at == stop { 0 } else { unit }).collect()

@@ -4,7 +4,6 @@ mod canvas;
 mod case;
 mod clip;
 mod colors;
-mod drawing;
 mod examples;
 mod lent;
 mod original;
@@ -12,10 +11,8 @@ mod random;
 mod run;
 mod sample;
 mod script;
-mod span;
 mod tally;
 
-pub use drawing::drawing;
 pub use run::run;
 pub use sample::sample;
 pub use script::answers;

@@ -1,14 +1,13 @@
 //! Random cases that draw: at every edge, far away, and at the ends of i32.
 
-use pocket_kernel::gdi::rop3;
-
 use super::case::{Case, MAX_COUNT, MAX_SIDE, MAX_SOURCE, MEMORY};
 use super::lent::Lent;
 use super::script::Script;
-use super::span::{moved, near, outline, span};
 use super::tally::Tally;
 use crate::argument::Units;
+use crate::random::{code, colorref, unit, word};
 use crate::rng::Rng;
+use crate::span::{moved, near, outline, span};
 
 /// The kinds of cases to choose from, each with its share.
 pub type Mix = &'static [(u8, u64)];
@@ -35,24 +34,6 @@ pub const ALL: Mix = &[
 
 /// Those that make surfaces, lend and draw.
 pub const DRAWING: Mix = ALL.split_at(7).1;
-
-pub const NAMED_CODES: [u32; 15] = [
-    rop3::BLACKNESS,
-    rop3::NOTSRCERASE,
-    rop3::NOTSRCCOPY,
-    rop3::SRCERASE,
-    rop3::DSTINVERT,
-    rop3::PATINVERT,
-    rop3::SRCINVERT,
-    rop3::SRCAND,
-    rop3::MERGEPAINT,
-    rop3::MERGECOPY,
-    rop3::SRCCOPY,
-    rop3::SRCPAINT,
-    rop3::PATCOPY,
-    rop3::PATPAINT,
-    rop3::WHITENESS,
-];
 
 /// A surface's width and height.
 type Sides = (i64, i64);
@@ -97,31 +78,6 @@ fn case(rng: &mut Rng, mix: Mix, surface: Lent, lent: Lent) -> Case {
 fn on(lent: Lent) -> Sides {
     let side = |n: u32| n.clamp(1, MAX_SIDE).into();
     (side(lent.width), side(lent.height))
-}
-
-/// Any number of 32 bits, half of the time without the top byte.
-fn colorref(rng: &mut Rng) -> u32 {
-    let top = if rng.one_in(2) { 0x00FF_FFFF } else { u32::MAX };
-    rng.next() as u32 & top
-}
-
-fn word(rng: &mut Rng) -> u16 {
-    if rng.one_in(6) {
-        rng.pick(&[0, 0xFFFF, 0xF800, 0x07E0, 0x001F, 0x8410, 0x7FFF, 0x8000])
-    } else {
-        rng.next() as u16
-    }
-}
-
-/// A named code, a named one with other bits changed, or any table.
-fn code(rng: &mut Rng) -> u32 {
-    let other_bits = rng.next() as u32 & 0xFF00_FFFF;
-    match rng.below(8) {
-        0..=2 => rng.pick(&NAMED_CODES),
-        3 => rng.pick(&NAMED_CODES) & 0x00FF_0000 | other_bits,
-        4 | 5 => (rng.below(256) as u32) << 16,
-        _ => (rng.below(256) as u32) << 16 | other_bits,
-    }
 }
 
 /// A seed, seldom the one for black.
@@ -307,16 +263,6 @@ fn count(rng: &mut Rng, width: i64) -> (i64, i64) {
         _ => u32::MAX.into(),
     };
     (count, stop)
-}
-
-/// A unit, mostly one with a glyph.
-fn unit(rng: &mut Rng) -> u16 {
-    match rng.below(24) {
-        0 => rng.next() as u16,
-        1 => rng.pick(&[0x1F, 0x20, 0x7E, 0x7F, 0x80, 0x0141, 0xD800, 0xDFFF, 0xFFFF]),
-        2 if rng.one_in(3) => 0,
-        _ => rng.between(0x21, 0x7E) as u16,
-    }
 }
 
 /// The surface's bytes, or others, as a surface of another shape, or as one

@@ -2,9 +2,10 @@
 
 use super::case::Case;
 use super::examples;
-use super::random::{self, NAMED_CODES};
+use super::random;
 use super::script::Script;
 use super::tally::Tally;
+use crate::codes::named;
 use crate::rng::Rng;
 
 /// Patterns, sources and destinations: each of the eight combinations alone,
@@ -85,12 +86,12 @@ fn words(cases: &mut Vec<Case>) {
 /// outside the table differ.
 fn raster(cases: &mut Vec<Case>) {
     let mut apply = |code, [p, s, d]: [u16; 3]| cases.push(Case::Raster { code, p, s, d });
-    for code in (0..256).map(|table| table << 16).chain(NAMED_CODES) {
+    for code in (0..256).map(|table| table << 16).chain(named()) {
         for operands in OPERANDS {
             apply(code, operands);
         }
     }
-    for code in NAMED_CODES {
+    for code in named() {
         for other in [0x8000_0000, 0x4000_0000, 0x0100_0000, 0x0000_0001, 0x0000_FFFF] {
             apply(code ^ other, OPERANDS[8]);
         }

@@ -3,9 +3,10 @@
 use std::fmt;
 
 use super::case::{Case, KINDS};
-use super::clip::{boxed, cuts, moved, skipped, CUTS, MOVES};
+use super::clip::{boxed, skipped};
 use super::lent::Lent;
 use super::original::Outcome;
+use crate::clip::{cuts, moved, CUTS, MOVES};
 use crate::counts::listed;
 
 /// The numbers of refusals.
@@ -58,20 +59,20 @@ impl Tally {
 
     /// Counts where an accepted drawing was cut, and how its rows were taken.
     fn count_clipped(&mut self, case: &Case, outcome: &Outcome, target: Lent) {
-        let Some([x, y]) = boxed(case, target) else { return };
+        let Some(seen) = boxed(case, target) else { return };
         if outcome.changed {
-            for (sum, cut) in self.cuts.iter_mut().zip(cuts(&x, &y)) {
+            for (sum, cut) in self.cuts.iter_mut().zip(cuts(&seen)) {
                 *sum += u64::from(cut);
             }
         }
         match *case {
             Case::Blit { src_w, src_len, .. } => {
-                let rows = skipped(&x, &y, src_w, src_len);
+                let rows = skipped(&seen, src_w, src_len);
                 self.skipped_some += u64::from(rows != 0);
-                self.skipped_all += u64::from(rows == y.len);
+                self.skipped_all += u64::from(rows == seen[1].len);
             }
             Case::BlitWithin { .. } => {
-                if let Some(at) = moved(&x, &y) {
+                if let Some(at) = moved(&seen) {
                     self.moves[at] += 1;
                 }
             }

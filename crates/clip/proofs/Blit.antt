@@ -23,6 +23,10 @@ inside-parts : (z : ℤ) (side : ℕ) → inside z side ≡ true → (negative z
 inside-parts (pos k) side e = (refl, bounds 0 side k e .1)
 inside-parts (negsuc k) side e = absurd (true≢false (sym e))
 
+-- what is taken for a drawn coordinate is inside the source
+pub drawn-source : (d s w : ℤ) (src-side i : ℕ) → drawn d s w src-side i ≡ true → positive (sourceAt d s i) < src-side
+drawn-source d s w src-side i e = inside-parts (sourceAt d s i) src-side (both (covers d w i) (inside (sourceAt d s i) src-side) e .1) .1
+
 -- the cut source holds the coordinates of s .. s + w inside the source
 cut-inside : (s w : ℤ) (side : ℕ) (z : ℤ) → (leZ (pos (clippedAxis s w side .from)) z && ltZ z (pos (clippedAxis s w side .to))) ≡ ((leZ s z && ltZ z (s +ℤ w)) && inside z side)
 cut-inside s w side (negsuc k) = sym (and-false (leZ s (negsuc k) && ltZ (negsuc k) (s +ℤ w)))

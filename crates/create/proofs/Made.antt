@@ -13,8 +13,8 @@ use Rattle.memory.specs.Gap.{blanked}
 use Rattle.handles.specs.Handles.{newHandle, addedAs, added}
 use Rattle.plan.specs.declared.Answer.the-variants.{Refused, Handle}
 use Rattle.plan.specs.declared.Outcome.{Outcome}
-use Rattle.plan.specs.Memories.{memories}
-use Rattle.plan.specs.Paint.{paintedBy, after}
+use Rattle.paint.specs.Memories.{memories}
+use Rattle.paint.specs.Paint.{paintedBy, after}
 use Rattle.plan.specs.Plan.{Plan, refuse}
 use Rattle.plan.specs.Create.{made, createOf, sideOf, createBitmap}
 use Rattle.plan.specs.Calls.{Done}

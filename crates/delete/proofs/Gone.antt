@@ -13,7 +13,7 @@ use Rattle.sound.specs.Sound.{startOf, used}
 use Rattle.memory.specs.Gap.{closedUp}
 use Rattle.removal.specs.Removal.{withoutAt}
 use Rattle.plan.specs.declared.Answer.{Answer}
-use Rattle.plan.specs.Paint.{paintedBy, after}
+use Rattle.paint.specs.Paint.{paintedBy, after}
 use Rattle.plan.specs.Delete.{goneAt, goes}
 use Rattle.plan.specs.Calls.{Done}
 

@@ -1,7 +1,4 @@
-pub mod Alike
-pub mod Draws
-pub mod Blanks
-pub mod Closed
 pub mod Safe
+pub mod Drawings
 pub mod Noninterference
 pub mod Performed

@@ -18,7 +18,7 @@ use Rattle.sound.proofs.Sound.{whole}
 use Rattle.memory.specs.Gap.{blanked}
 use Rattle.ready.specs.Ready.{commonRefusal}
 use Rattle.ready.proofs.Ready.{looks}
-use Rattle.plan.specs.Memories.{Memories, memories}
+use Rattle.paint.specs.Memories.{Memories, memories}
 use Rattle.plan.specs.Open.{openRefusal, OpenedBy}
 
 -- the refusal's cases, n and k being the lengths of panel memory and store

@@ -1,6 +1,6 @@
 // Open: a fresh bench on two lent memories.
 ghost use mathlib.Core.Path.{_≡_};
-ghost use Rattle.plan.specs.Memories.{memories};
+ghost use Rattle.paint.specs.Memories.{memories};
 ghost use Rattle.plan.specs.Open.{openRefusal, OpenedBy};
 use plan::Opened;
 use surface::BAD_SIDE;

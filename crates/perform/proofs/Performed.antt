@@ -9,25 +9,31 @@ use borrow.Author.Tests.{eq-eqb, ne-eqb}
 use Rattle.gdi.specs.declared.GdiState.{GdiState}
 use Rattle.sound.specs.Sound.{isSound}
 use Rattle.sound.proofs.Sound.{parts}
-use Rattle.ready.specs.Ready.{commonRefusal}
+use Rattle.ready.specs.Ready.{Ready, commonRefusal}
 use Rattle.ready.proofs.Ready.{ready}
 use Rattle.plan.specs.declared.Call.{Call}
 use Rattle.plan.specs.declared.Answer.the-variants.{Refused}
 use Rattle.plan.specs.declared.Outcome.{Outcome}
-use Rattle.plan.specs.Memories.{Memories, memories}
-use Rattle.plan.specs.Paint.{after}
-use Rattle.plan.specs.Calls.{act, plan, planOf, Performed, Done}
+use Rattle.paint.specs.Memories.{Memories, memories}
+use Rattle.paint.specs.Paint.{after}
+use Rattle.plan.specs.Calls.{act, plan, planOf, Followed, Performed, Done, DoneOnPanel}
 
 -- what a called function requires, where no common refusal is
 module _ (b : GdiState) (n k : ℕ) {no : ℕ} (e : no ≡ commonRefusal b n k) (z : no ≡ 0) where
+  pub is-ready : Ready b n k
+  is-ready = ready b n k no e z
+
   pub sound-lent : (isSound b ≡ true) × (k ≡ b .«store_len»)
-  sound-lent = let r = ready b n k no e z in (r .sound, r .store)
+  sound-lent = (is-ready .sound, is-ready .store)
+
+  pub sound-shown : (isSound b ≡ true) × (n ≡ b .«panel_len»)
+  sound-shown = (is-ready .sound, is-ready .panel)
 
   pub few-objects : b .count ≤ 256
-  few-objects = parts b (sound-lent .0) .count
+  few-objects = parts b (is-ready .sound) .count
 
-module _ (b : GdiState) (ms : Memories) {no : ℕ} (e : no ≡ commonRefusal b (length (ms .panel)) (length (ms .store))) where
-  pub refused : (c : Call) → (no ≡ 0 → ⊥) → Performed c b ms (record { state = b; answer = Refused no }) ms
+module _ (us : List ℕ) (b : GdiState) (ms : Memories) {no : ℕ} (e : no ≡ commonRefusal b (length (ms .panel)) (length (ms .store))) where
+  pub refused : (c : Call) → (no ≡ 0 → ⊥) → Performed c us b ms (record { state = b; answer = Refused no }) ms
   unfolding plan after
   refused c ne = record { outcome = rw (off, e); memories = rw off }
     where
@@ -35,15 +41,21 @@ module _ (b : GdiState) (ms : Memories) {no : ℕ} (e : no ≡ commonRefusal b (
       off = ne-eqb _ _ (λ h. ne (e ∙ h))
 
   module _ (z : no ≡ 0) {c v : Call} (is : c ≡ v) where
-    looked : planOf c b ms ≡ act v b
+    looked : planOf c us b ms ≡ act v us b
     unfolding plan
     looked = rw (is, eq-eqb _ _ (sym e ∙ z))
 
-    -- a function that ensures what it does to the store
-    pub did : {r : Outcome} {s′ : List ℕ} → Done (act v b) b (ms .store) r s′ → Performed c b ms r (memories (ms .panel) s′)
-    did d = record { outcome = d .outcome ∙ rw looked; memories = d .memories (ms .panel) ∙ rw looked }
+    -- a function that ensures what it does to both memories, to the store, or to the panel memory
+    pub followed : {r : Outcome} {ms′ : Memories} → Followed (act v us b) b ms r ms′ → Performed c us b ms r ms′
+    followed d = record { outcome = d .outcome ∙ rw looked; memories = d .memories ∙ rw looked }
+
+    pub did : {r : Outcome} {s′ : List ℕ} → Done (act v us b) b (ms .store) r s′ → Performed c us b ms r (memories (ms .panel) s′)
+    did d = followed (record { outcome = d .outcome; memories = d .memories (ms .panel) })
+
+    pub did-on-panel : {r : Outcome} {p′ : List ℕ} → DoneOnPanel (act v us b) b (ms .panel) r p′ → Performed c us b ms r (memories p′ (ms .store))
+    did-on-panel d = followed (record { outcome = d .outcome; memories = d .memories (ms .store) })
 
     -- a function without memories, whose call paints nothing
-    pub did-unpainted : {r : Outcome} → r ≡ act v b .outcome → act v b .paint ≡ [] → Performed c b ms r ms
+    pub did-unpainted : {r : Outcome} → r ≡ act v us b .outcome → act v us b .paint ≡ [] → Performed c us b ms r ms
     unfolding after
     did-unpainted o p = record { outcome = o ∙ rw looked; memories = rw (looked, p) }

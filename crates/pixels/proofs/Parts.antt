@@ -20,7 +20,7 @@ use Rattle.place.specs.declared.SurfaceId.{SurfaceId}
 use Rattle.place.specs.declared.Target.{Target}
 use Rattle.place.specs.declared.Target.the-variants.{NoDc, NoSurface, On}
 use Rattle.place.specs.Place.{targetOf, lengthOf, Inside, Within, Placed}
-use Rattle.plan.specs.Memories.{memories, memoryOf, pixelsAt}
+use Rattle.paint.specs.Memories.{memories, memoryOf, pixelsAt}
 use Rattle.pixels.specs.Pixels.{placeOn, placeOf, pixelsOf, Found}
 
 -- where a DC's pixels lie, by the number of the refusal and the DC's target

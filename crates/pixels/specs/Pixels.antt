@@ -12,7 +12,7 @@ use Rattle.place.specs.declared.Place.the-variants.{Nowhere}
 use Rattle.place.specs.declared.Target.{Target}
 use Rattle.place.specs.declared.Target.the-variants.{NoDc, NoSurface, On}
 use Rattle.place.specs.Place.{whereIs, targetOf, Within}
-use Rattle.plan.specs.Memories.{Memories, pixelsAt}
+use Rattle.paint.specs.Memories.{Memories, pixelsAt}
 
 abbrev pub placeOn : GdiState → Target → Place
 placeOn b NoDc = Nowhere

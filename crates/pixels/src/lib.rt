@@ -1,7 +1,7 @@
 // The exported way to a DC's pixels: the part of the panel memory or of the store that is its surface.
 ghost use mathlib.Core.Path.{_≡_};
-ghost use Rattle.plan.specs.Memories.{memories};
-ghost use Rattle.pixels.specs.Pixels.{placeOf, pixelsOf, Found};
+ghost use Rattle.paint.specs.Memories.{memories};
+ghost use Rattle.pixels.specs.Pixels.{pixelsOf, Found};
 use gdi::GdiState;
 use place::Memory;
 use place::Place;

@@ -45,7 +45,7 @@ turn (before e) = behind e
 turn (behind e) = before e
 
 -- nowhere, or in the store from byte p on
-data From (p : ℕ) : Place → Type 0 where
+pub data From (p : ℕ) : Place → Type 0 where
   nothing : From p Nowhere
   some : {q w h : ℕ} → p ≤ q → From p (At Store q w h)
 
@@ -93,7 +93,7 @@ located-apart (s ∷ l) p h k ne =
     by false true e f later = turn (frame-before (s .object) p _ (locate-from l _ _ h (omega arith)))
     by false false e f later = later
 
-bitmap-from : (b : GdiState) (h : ℕ) → From 0 (whereIs b (Bitmap h))
+pub bitmap-from : (b : GdiState) (h : ℕ) → From 0 (whereIs b (Bitmap h))
 bitmap-from b h = by (eqb h stockBitmap)
   where
     by : (t : Bool) → From 0 (cond t (At Store 0 1 1) (locate (live b) 2 h))

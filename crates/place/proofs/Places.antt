@@ -1,6 +1,6 @@
 -- The steps of locating a bitmap, and the cases of a surface's place, each inside its memory. Assumes nothing.
 use mathlib.Core.Bool.{true}
-use mathlib.Core.Path.{_≡_, sym, _∙_, subst⁻¹}
+use mathlib.Core.Path.{_≡_, sym, _∙_, subst, subst⁻¹}
 use Prim.Native.Nat.{ℕ, suc, _+_, _-_, _≤_, _<_}
 use native.Mathlib.Numerals.{add-one}
 use native.Mathlib.Omega.{arith}
@@ -16,12 +16,13 @@ use Rattle.gdi.specs.Stock.{stockBitmap}
 use Rattle.gdi.specs.Lookup.{handleAt, objectAt}
 use Rattle.sound.specs.Sound.{objectFits, startOf, isSound}
 use Rattle.sound.proofs.Sound.{parts, fits-at, room}
+use Rattle.place.specs.declared.Memory.{Memory}
 use Rattle.place.specs.declared.Memory.the-variants.{Panel as PanelMemory, Store}
 use Rattle.place.specs.declared.Place.{Place}
 use Rattle.place.specs.declared.Place.the-variants.{Nowhere, At}
 use Rattle.place.specs.declared.SurfaceId.{SurfaceId}
 use Rattle.place.specs.declared.SurfaceId.the-variants.{Panel, Bitmap}
-use Rattle.place.specs.Place.{slotsFrom, live, frameOf, locate, Inside, Within, Located, Placed}
+use Rattle.place.specs.Place.{slotsFrom, live, frameOf, locate, lengthOf, Inside, Within, Located, Placed}
 
 -- what is located among the slots from i on, if their pixels lie from byte p on
 abbrev pub locatedFrom : GdiState → (h i p : ℕ) → Place
@@ -90,3 +91,7 @@ module _ (b : GdiState) (sound : isSound b ≡ true) {u : SurfaceId} where
 
   pub placed-created : {h : ℕ} {r : Place} → u ≡ Bitmap h → (h ≡ stockBitmap → ⊥) → Located b h r → Placed b u r
   placed-created e ne l = record { same = rw (e, ne-eqb _ _ ne) (l .same); within = l .within }
+
+-- what is known of a place that was taken apart
+pub taken-apart : (n k : ℕ) {at : Place} {m : Memory} (v : Memory) {p w h : ℕ} → Within n k at → at ≡ At m p w h → m ≡ v → Inside (lengthOf n k v) p w h
+taken-apart n k v {p} {w} {h} i e f = subst (λ (u : Memory). Inside (lengthOf n k u) p w h) f (subst (Within n k) e i)

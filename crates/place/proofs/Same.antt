@@ -30,6 +30,25 @@ use Rattle.place.specs.Place.{slotsFrom, frameOf, locate, whereIs}
 abbrev pub SamePlaces : GdiState → GdiState → Type 0
 SamePlaces b b′ = (u : SurfaceId) → whereIs b′ u ≡ whereIs b u
 
+-- The second record has every surface where the first has it, is sound if the first is, and has the first's lengths.
+pub record Still (b b′ : GdiState) : Type 0 where
+  pub places : SamePlaces b b′
+  pub sound : isSound b ≡ true → isSound b′ ≡ true
+  pub panel-len : b′ .«panel_len» ≡ b .«panel_len»
+  pub store-len : b′ .«store_len» ≡ b .«store_len»
+
+pub still-same : (b : GdiState) → Still b b
+still-same b = record { places = λ u. refl; sound = λ s. s; panel-len = refl; store-len = refl }
+
+pub still-then : {a b c : GdiState} → Still a b → Still b c → Still a c
+still-then s t =
+    record {
+      places = λ u. t .places u ∙ s .places u;
+      sound = λ z. t .sound (s .sound z);
+      panel-len = t .panel-len ∙ s .panel-len;
+      store-len = t .store-len ∙ s .store-len;
+    }
+
 -- a slot that keeps what places depend on
 pub record Kept (s t : Slot) : Type 0 where
   pub handle : s .handle ≡ t .handle

@@ -1,3 +1,4 @@
+pub mod Cases
 pub mod Refusal
 pub mod Create
 pub mod Select

@@ -1,5 +1,6 @@
 -- Every refusal is one that changes nothing. Assumes nothing.
 use mathlib.Core.Bool.{Bool, true, false, cond, _||_}
+use mathlib.Core.List.{List}
 use mathlib.Core.Path.{_≡_, refl}
 use Prim.Native.Nat.{ℕ, _+_}
 use lib.Dec.{eqb, leb, ltb}
@@ -17,7 +18,7 @@ use Rattle.gdi.specs.Lookup.{findOf, dcOf, kindOf}
 use Rattle.sound.specs.Sound.{used}
 use Rattle.ready.specs.Ready.{commonRefusal}
 use Rattle.plan.specs.declared.Call.{Call}
-use Rattle.plan.specs.declared.Call.the-variants.{CreateMemoryDc, CreateCompatibleBitmap, CreateSolidBrush, CreatePen, CreateFont, Delete, Remove, SelectInto, SetTextColor, SetTextAlign, SetBkColor, SetBkMode}
+use Rattle.plan.specs.declared.Call.the-variants.{CreateMemoryDc, CreateCompatibleBitmap, CreateSolidBrush, CreatePen, CreateFont, Delete, Remove, SelectInto, SetTextColor, SetTextAlign, SetBkColor, SetBkMode, PatternFill, Rectangle, Text, PanelFill, Resize, Blit}
 use Rattle.plan.specs.declared.Answer.{Answer}
 use Rattle.plan.specs.declared.Answer.the-variants.{Handle}
 use Rattle.plan.specs.Answer.{partsOf}
@@ -28,6 +29,7 @@ use Rattle.plan.specs.Select.{isOther, selectAt, selectInto}
 use Rattle.plan.specs.Settings.{settingAt, setting}
 use Rattle.plan.specs.Calls.{act, plan}
 use Rattle.plan.specs.Refusal.{numberOf, RefusalsKeep}
+use Rattle.plan.proofs.Cases.{pattern-fill-by, rectangle-by, text-by, blit-by, resize-by}
 
 -- a plan that, if it refuses, changes nothing
 record Keeps (b : GdiState) (p : Plan) : Type 0 where
@@ -85,25 +87,31 @@ set old new b dc e = by (dcOf b dc)
     by Absent = refusal b 1
 
 -- a line for each call
-call : (c : Call) (b : GdiState) → Keeps b (act c b)
+call : (c : Call) (us : List ℕ) (b : GdiState) → Keeps b (act c us b)
 unfolding act
-call CreateMemoryDc b = create b _
-call (CreateCompatibleBitmap w h) b = bitmap b w h
-call (CreateSolidBrush c) b = create b _
-call (CreatePen c w) b = create b _
-call (CreateFont h) b = create b _
-call (Delete h) b = leave _ _ _ b h refl (λ i. refl) refl
-call (Remove h) b = leave _ _ _ b h refl (λ i. refl) refl
-call (SelectInto dc h) b = select b dc h
-call (SetTextColor dc c) b = set _ _ b dc (λ d. refl)
-call (SetTextAlign dc v) b = set _ _ b dc (λ d. refl)
-call (SetBkColor dc c) b = set _ _ b dc (λ d. refl)
-call (SetBkMode dc t) b = set _ _ b dc (λ d. refl)
+call CreateMemoryDc us b = create b _
+call (CreateCompatibleBitmap w h) us b = bitmap b w h
+call (CreateSolidBrush c) us b = create b _
+call (CreatePen c w) us b = create b _
+call (CreateFont h) us b = create b _
+call (Delete h) us b = leave _ _ _ b h refl (λ i. refl) refl
+call (Remove h) us b = leave _ _ _ b h refl (λ i. refl) refl
+call (SelectInto dc h) us b = select b dc h
+call (SetTextColor dc c) us b = set _ _ b dc (λ d. refl)
+call (SetTextAlign dc v) us b = set _ _ b dc (λ d. refl)
+call (SetBkColor dc c) us b = set _ _ b dc (λ d. refl)
+call (SetBkMode dc t) us b = set _ _ b dc (λ d. refl)
+call (PatternFill dc a rop) us b = pattern-fill-by (Keeps b) b (refusal b) dc a rop (λ s d. accepted b _ refl)
+call (Rectangle dc a) us b = rectangle-by (Keeps b) b (refusal b) dc a (λ s d. accepted b _ refl)
+call (Text dc at) us b = text-by (Keeps b) b (refusal b) us dc at (λ s d. accepted b _ refl)
+call (PanelFill c) us b = accepted b _ refl
+call (Resize w h) us b = resize-by (Keeps b) b (refusal b) w h (accepted b _ refl) (λ e f g. accepted b _ refl)
+call (Blit dc a src from rop) us b = blit-by (Keeps b) b (refusal b) dc a src from rop (λ s d. accepted b _ refl) (λ s d q. accepted b _ refl)
 
 pub refusals-keep : RefusalsKeep
 unfolding plan
-refusals-keep c b n k = by (eqb (commonRefusal b n k) 0) .keeps
+refusals-keep c us b n k = by (eqb (commonRefusal b n k) 0) .keeps
   where
-    by : (t : Bool) → Keeps b (cond t (act c b) (refuse (commonRefusal b n k) b))
-    by true = call c b
+    by : (t : Bool) → Keeps b (cond t (act c us b) (refuse (commonRefusal b n k) b))
+    by true = call c us b
     by false = refusal b _

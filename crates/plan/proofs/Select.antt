@@ -13,24 +13,20 @@ use Rattle.gdi.specs.declared.DcFound.{DcFound}
 use Rattle.gdi.specs.declared.DcFound.the-variants.{Is, Absent}
 use Rattle.gdi.specs.Record.{storeOf}
 use Rattle.gdi.specs.Lookup.{dcOf, kindOf}
-use Rattle.sound.specs.Sound.{isSound}
-use Rattle.place.proofs.Same.{SamePlaces, stored-places, stored-sound}
+use Rattle.place.proofs.Same.{Still, still-same, stored-places, stored-sound}
 use Rattle.plan.specs.declared.Answer.{Answer}
 use Rattle.plan.specs.declared.Answer.the-variants.{Handle}
 use Rattle.plan.specs.Plan.{Plan, told}
 use Rattle.plan.specs.Select.{selectIn, isOther, selectAt, selectInto}
 use Rattle.plan.specs.Settings.{settingAt, setting}
 
--- A plan that paints nothing and leaves every surface in its place, the record sound if it was, and its lengths.
+-- A plan that paints nothing and leaves every surface in its place.
 pub record Unpainted (b : GdiState) (p : Plan) : Type 0 where
   pub paint : p .paint ≡ []
-  pub places : SamePlaces b (p .outcome .state)
-  pub sound : isSound b ≡ true → isSound (p .outcome .state) ≡ true
-  pub panel-len : p .outcome .state .«panel_len» ≡ b .«panel_len»
-  pub store-len : p .outcome .state .«store_len» ≡ b .«store_len»
+  pub still : Still b (p .outcome .state)
 
 told-unpainted : (b : GdiState) (a : Answer) → Unpainted b (told b a)
-told-unpainted b a = record { paint = refl; places = λ u. refl; sound = λ s. s; panel-len = refl; store-len = refl }
+told-unpainted b a = record { paint = refl; still = still-same b }
 
 -- another DC record, with the same kind of surface
 module _ (b : GdiState) (dc : ℕ) {p : Spot} {d₀ : Dc} (d : Dc) (a : Answer) (found : dcOf b dc ≡ Is p d₀) (same : d .surface ≡ d₀ .surface) where
@@ -46,10 +42,12 @@ module _ (b : GdiState) (dc : ℕ) {p : Spot} {d₀ : Dc} (d : Dc) (a : Answer) 
   stored-unpainted =
       record {
         paint = refl;
-        places = stored-places b dc d found;
-        sound = λ s. stored-sound b dc d s found same;
-        panel-len = panel-kept p;
-        store-len = store-kept p;
+        still = record {
+          places = stored-places b dc d found;
+          sound = λ s. stored-sound b dc d s found same;
+          panel-len = panel-kept p;
+          store-len = store-kept p;
+        };
       }
 
 select-surface : (d : Dc) (h : ℕ) (k : Kind) → selectIn d h k .surface ≡ d .surface

@@ -20,7 +20,7 @@ use Rattle.gdi.specs.declared.Spot.the-variants.{Screen, Created}
 use Rattle.gdi.specs.declared.DcFound.{DcFound}
 use Rattle.gdi.specs.declared.DcFound.the-variants.{Is, Absent}
 use Rattle.gdi.specs.Record.{noSlot, vacantSlot, bytesOf, storeOf}
-use Rattle.gdi.specs.Stock.{isStock}
+use Rattle.gdi.specs.Stock.{isStock, stockBitmap}
 use Rattle.gdi.specs.Lookup.{slotAt, findOf, dcOf, kindOf}
 use Rattle.gdi.proofs.Scan.{found-count, dc-found}
 use Rattle.sound.specs.Sound.{used}
@@ -28,19 +28,24 @@ use Rattle.sound.proofs.Sound.{Sound, parts, table-long}
 use Rattle.memory.proofs.Gap.{closed-freed, closed-past}
 use Rattle.ready.specs.Ready.{commonRefusal}
 use Rattle.ready.proofs.Ready.{ready}
+use Rattle.place.specs.declared.SurfaceId.{SurfaceId}
+use Rattle.place.specs.declared.SurfaceId.the-variants.{Panel, Bitmap}
+use Rattle.dirty.specs.Dirty.{framed, stockDirtied, createdDirtied, dirtied, dirtiedIf}
 use Rattle.handles.specs.Handles.{inserted, added}
 use Rattle.removal.specs.Removal.{withoutAt}
 use Rattle.plan.specs.declared.Call.{Call}
-use Rattle.plan.specs.declared.Call.the-variants.{CreateMemoryDc, CreateCompatibleBitmap, CreateSolidBrush, CreatePen, CreateFont, Delete, Remove, SelectInto, SetTextColor, SetTextAlign, SetBkColor, SetBkMode}
+use Rattle.plan.specs.declared.Call.the-variants.{CreateMemoryDc, CreateCompatibleBitmap, CreateSolidBrush, CreatePen, CreateFont, Delete, Remove, SelectInto, SetTextColor, SetTextAlign, SetBkColor, SetBkMode, PatternFill, Rectangle, Text, PanelFill, Resize, Blit}
 use Rattle.plan.specs.declared.Answer.{Answer}
 use Rattle.plan.specs.declared.Answer.the-variants.{Handle}
-use Rattle.plan.specs.Plan.{told, refuse}
+use Rattle.plan.specs.Plan.{Plan, told, refuse}
 use Rattle.plan.specs.Create.{made, newBitmap, createOf, createBitmap}
 use Rattle.plan.specs.Delete.{goneAt, goes}
 use Rattle.plan.specs.Select.{isOther, selectAt, selectInto}
 use Rattle.plan.specs.Settings.{settingAt, setting}
+use Rattle.plan.specs.Panel.{withSides}
 use Rattle.plan.specs.Calls.{act, plan}
 use Rattle.plan.specs.Vacant.{Vacant, StaysVacant}
+use Rattle.plan.proofs.Cases.{pattern-fill-by, rectangle-by, text-by, blit-by, resize-by}
 
 -- a slot behind the inserted one
 behind : (l : List Slot) (n : ℕ) (s : Slot) → n ≤ length l → (i : ℕ) → n < i → getD (inserted l n s) i noSlot ≡ getD l i noSlot
@@ -121,30 +126,64 @@ module _ (b : GdiState) (sound : Sound b) (v : Vacant b) where
       by (Is p d) e = stored-vacant dc p d _ e
       by Absent e = v
 
+-- a mark made
+framed-vacant : (b : GdiState) → Vacant b → Vacant (framed b)
+framed-vacant b v = record { vacant = v .vacant }
+
+dirtied-vacant : (b : GdiState) (s : SurfaceId) → Vacant b → Vacant (dirtied b s)
+unfolding dirtied
+dirtied-vacant b Panel v = framed-vacant b v
+dirtied-vacant b (Bitmap h) v = by (eqb h stockBitmap) (findOf b h) refl
+  where
+    by : (t : Bool) (q : Found) → findOf b h ≡ q → Vacant (cond t (stockDirtied b) (createdDirtied b q))
+    by true q e = record { vacant = v .vacant }
+    by false (At i) e =
+        let lt : i < b .count = found-count b h e in
+        record { vacant = λ j le few. getD-set-other (b .objects) i j _ noSlot (λ q. absurd (omega (arith, q, lt))) ∙ v .vacant j le few }
+    by false Nothing e = v
+
+dirtied-if-vacant : (due : Bool) (s : SurfaceId) (b : GdiState) → Vacant b → Vacant (dirtiedIf due s b)
+unfolding dirtiedIf
+dirtied-if-vacant true s b v = dirtied-vacant b s v
+dirtied-if-vacant false s b v = v
+
+module _ (b : GdiState) (sound : Sound b) (v : Vacant b) where
+  abbrev After : Plan → Type 0
+  After p = Vacant (p .outcome .state)
+
+  none : (n : ℕ) → After (refuse n b)
+  none n = v
+
   -- a line for each call
-  act-vacant : (c : Call) → Vacant (act c b .outcome .state)
+  act-vacant : (c : Call) (us : List ℕ) → Vacant (act c us b .outcome .state)
   unfolding act
-  act-vacant CreateMemoryDc = create-vacant _
-  act-vacant (CreateCompatibleBitmap w h) = bitmap-vacant w h
-  act-vacant (CreateSolidBrush c) = create-vacant _
-  act-vacant (CreatePen c w) = create-vacant _
-  act-vacant (CreateFont h) = create-vacant _
-  act-vacant (Delete h) = goes-vacant _ _ _ h
-  act-vacant (Remove h) = goes-vacant _ _ _ h
-  act-vacant (SelectInto dc h) = select-vacant dc h
-  act-vacant (SetTextColor dc c) = setting-vacant _ _ dc
-  act-vacant (SetTextAlign dc t) = setting-vacant _ _ dc
-  act-vacant (SetBkColor dc c) = setting-vacant _ _ dc
-  act-vacant (SetBkMode dc t) = setting-vacant _ _ dc
+  act-vacant CreateMemoryDc us = create-vacant b sound v _
+  act-vacant (CreateCompatibleBitmap w h) us = bitmap-vacant b sound v w h
+  act-vacant (CreateSolidBrush c) us = create-vacant b sound v _
+  act-vacant (CreatePen c w) us = create-vacant b sound v _
+  act-vacant (CreateFont h) us = create-vacant b sound v _
+  act-vacant (Delete h) us = goes-vacant b sound v _ _ _ h
+  act-vacant (Remove h) us = goes-vacant b sound v _ _ _ h
+  act-vacant (SelectInto dc h) us = select-vacant b sound v dc h
+  act-vacant (SetTextColor dc c) us = setting-vacant b sound v _ _ dc
+  act-vacant (SetTextAlign dc t) us = setting-vacant b sound v _ _ dc
+  act-vacant (SetBkColor dc c) us = setting-vacant b sound v _ _ dc
+  act-vacant (SetBkMode dc t) us = setting-vacant b sound v _ _ dc
+  act-vacant (PatternFill dc a rop) us = pattern-fill-by After b none dc a rop (λ s d. dirtied-if-vacant _ s b v)
+  act-vacant (Rectangle dc a) us = rectangle-by After b none dc a (λ s d. dirtied-if-vacant _ s _ (dirtied-if-vacant _ s b v))
+  act-vacant (Text dc at) us = text-by After b none us dc at (λ s d. dirtied-if-vacant _ s b v)
+  act-vacant (PanelFill c) us = dirtied-vacant b Panel v
+  act-vacant (Resize w h) us = resize-by After b none w h v (λ e f g. dirtied-vacant (withSides b w h) Panel (record { vacant = v .vacant }))
+  act-vacant (Blit dc a src from rop) us = blit-by After b none dc a src from rop (λ s d. dirtied-if-vacant _ s b v) (λ s d q. dirtied-if-vacant _ s b v)
 
 pub stays-vacant : StaysVacant
 unfolding plan
 stays-vacant =
     record {
       first = λ n k w h. record { vacant = λ i le lt. getD-replicate 256 i vacantSlot noSlot lt };
-      stays = λ c b n k v. by c b n k v (eqb (commonRefusal b n k) 0) refl;
+      stays = λ c us b n k v. by c us b n k v (eqb (commonRefusal b n k) 0) refl;
     }
   where
-    by : (c : Call) (b : GdiState) (n k : ℕ) → Vacant b → (t : Bool) → eqb (commonRefusal b n k) 0 ≡ t → Vacant (cond t (act c b) (refuse (commonRefusal b n k) b) .outcome .state)
-    by c b n k v true e = act-vacant b (parts b (ready b n k _ refl (eqb-true _ _ e) .sound)) v c
-    by c b n k v false e = v
+    by : (c : Call) (us : List ℕ) (b : GdiState) (n k : ℕ) → Vacant b → (t : Bool) → eqb (commonRefusal b n k) 0 ≡ t → Vacant (cond t (act c us b) (refuse (commonRefusal b n k) b) .outcome .state)
+    by c us b n k v true e = act-vacant b (parts b (ready b n k _ refl (eqb-true _ _ e) .sound)) v c us
+    by c us b n k v false e = v

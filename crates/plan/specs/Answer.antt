@@ -1,16 +1,17 @@
 -- An answer's number and values.
-use mathlib.Core.Bool.{Bool, true, false}
+use mathlib.Core.Bool.{Bool, false}
 use Prim.Native.Nat.{ℕ}
 use Rattle.gdi.specs.declared.GdiObject.{GdiObject}
 use Rattle.plan.specs.declared.Answer.{Answer}
-use Rattle.plan.specs.declared.Answer.the-variants.{Refused, Handle, Deleted, Removed, NotRemoved, OldColor, OldAlign, OldMode}
+use Rattle.plan.specs.declared.Answer.the-variants.{Refused, Handle, Deleted, Removed, NotRemoved, OldColor, OldAlign, OldMode, Drawn, Advance}
 
 -- a record that may be missing
 pub data Object : Type 0 where
   none : Object
   some : GdiObject → Object
 
--- An answer's parts: the refusal's number, 0 if the call was accepted; a handle, colour or alignment; a flag; an object.
+-- An answer's parts: the refusal's number, 0 if the call was accepted; a handle, colour, alignment or advance; a flag; an
+-- object.
 pub record Parts : Type 0 where
   pub number : ℕ
   pub value : ℕ
@@ -30,3 +31,5 @@ partsOf NotRemoved = parts 0 0 false none
 partsOf (OldColor c) = parts 0 (c .0) false none
 partsOf (OldAlign v) = parts 0 v false none
 partsOf (OldMode f) = parts 0 0 f none
+partsOf Drawn = parts 0 0 false none
+partsOf (Advance n) = parts 0 n false none

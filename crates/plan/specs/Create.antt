@@ -8,9 +8,10 @@ use Rattle.gdi.specs.declared.GdiObject.{GdiObject}
 use Rattle.gdi.specs.declared.GdiObject.the-variants.{Bitmap}
 use Rattle.gdi.specs.Record.{bytesOf}
 use Rattle.sound.specs.Sound.{used}
+use Rattle.place.specs.declared.SurfaceId.the-variants.{Bitmap as BitmapId}
 use Rattle.handles.specs.Handles.{newHandle, added}
 use Rattle.plan.specs.declared.Answer.the-variants.{Handle}
-use Rattle.plan.specs.Paint.{blank}
+use Rattle.paint.specs.Paint.{blank}
 use Rattle.plan.specs.Plan.{Plan, refuse}
 
 -- the object under its new handle, its pixels black
@@ -18,7 +19,7 @@ abbrev pub made : GdiState → GdiObject → Plan
 made b o =
     record {
       outcome = record { state = added b o; answer = Handle (newHandle b) };
-      paint = blank (newHandle b) (used b) (bytesOf o) ∷ [];
+      paint = blank (BitmapId (newHandle b)) (used b) (bytesOf o) ∷ [];
     }
 
 -- 256 created objects live is 5; a bitmap that with all live ones and the stock bitmap's 2 bytes exceeds the store is 7

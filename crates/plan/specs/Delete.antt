@@ -1,23 +1,16 @@
 -- Delete and remove: a created object goes, and the store closes up where its pixels were.
-use mathlib.Core.Bool.{Bool, true, false, cond}
-use mathlib.Core.List.{List, [], _∷_}
+use mathlib.Core.Bool.{true, false, cond}
 use Prim.Native.Nat.{ℕ}
 use Rattle.gdi.specs.declared.GdiState.{GdiState}
 use Rattle.gdi.specs.declared.Found.{Found}
 use Rattle.gdi.specs.declared.Found.the-variants.{At, Nothing}
-use Rattle.gdi.specs.Record.{bytesOf}
 use Rattle.gdi.specs.Stock.{isStock}
 use Rattle.gdi.specs.Lookup.{objectAt, findOf}
-use Rattle.sound.specs.Sound.{startOf, used}
 use Rattle.removal.specs.Removal.{withoutAt}
 use Rattle.plan.specs.declared.Answer.{Answer}
 use Rattle.plan.specs.declared.Answer.the-variants.{Deleted, Removed, NotRemoved}
-use Rattle.plan.specs.Paint.{Paint, close}
+use Rattle.paint.specs.Paint.{closing}
 use Rattle.plan.specs.Plan.{Plan, told}
-
--- object i, of the handle h, goes: its pixels out of the store
-abbrev pub closing : GdiState → (h i : ℕ) → List Paint
-closing b h i = close h (startOf b i) (bytesOf (objectAt b i)) (used b) ∷ []
 
 abbrev pub goneAt : (gone : ℕ → Answer) (none : Answer) → GdiState → ℕ → Found → Plan
 goneAt gone none b h (At i) = record { outcome = record { state = withoutAt b i; answer = gone i }; paint = closing b h i }

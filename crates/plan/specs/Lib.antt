@@ -1,12 +1,12 @@
 pub mod Answer
-pub mod Memories
-pub mod Paint
 pub mod Plan
 pub mod Create
 pub mod Delete
 pub mod Dc
 pub mod Select
 pub mod Settings
+pub mod Drawing
+pub mod Panel
 pub mod Calls
 pub mod Open
 pub mod Refusal

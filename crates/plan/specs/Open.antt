@@ -1,17 +1,15 @@
 -- Open: a fresh bench, panel and stock pixel black.
-use mathlib.Core.Bool.{Bool, cond, _&&_}
-use mathlib.Core.List.{List}
+use mathlib.Core.Bool.{cond, _&&_}
 use mathlib.Core.Path.{_≡_}
 use Prim.Native.Nat.{ℕ}
 use lib.Dec.{eqb, leb}
 use lib.ListN.{length}
 use Rattle.surface.specs.Refusal.{side, unlessRefused}
-use Rattle.gdi.specs.declared.GdiState.{GdiState}
 use Rattle.gdi.specs.Record.{size, fresh}
 use Rattle.sound.specs.Sound.{limit}
 use Rattle.memory.specs.Gap.{blanked}
 use Rattle.plan.specs.declared.Opened.{Opened}
-use Rattle.plan.specs.Memories.{Memories, memories}
+use Rattle.paint.specs.Memories.{Memories}
 
 -- 6 a side not 1 to 4,096; 8 a memory above the limit; 7 panel memory or store (2 bytes at least) too short
 unfoldable pub openRefusal : (width height panel-len store-len : ℕ) → ℕ

@@ -5,7 +5,7 @@ use Rattle.gdi.specs.declared.GdiState.{GdiState}
 use Rattle.plan.specs.declared.Answer.{Answer}
 use Rattle.plan.specs.declared.Answer.the-variants.{Refused}
 use Rattle.plan.specs.declared.Outcome.{Outcome}
-use Rattle.plan.specs.Paint.{Paint}
+use Rattle.paint.specs.Paint.{Paint}
 
 -- The record after with the answer, and the paints.
 pub record Plan : Type 0 where

@@ -1,4 +1,5 @@
 -- What a refusal is.
+use mathlib.Core.List.{List}
 use mathlib.Core.Path.{_≡_}
 use Prim.Native.Nat.{ℕ}
 use Rattle.gdi.specs.declared.GdiState.{GdiState}
@@ -13,5 +14,6 @@ numberOf p = partsOf (p .outcome .answer) .number
 
 -- A refusal gives its number, with every other part of the answer 0, false or none, and changes no byte and no field.
 abbrev pub RefusalsKeep : Type 0
-RefusalsKeep = (c : Call) (b : GdiState) (panel-len store-len : ℕ)
-    → (numberOf (plan c b panel-len store-len) ≡ 0 → ⊥) → plan c b panel-len store-len ≡ refuse (numberOf (plan c b panel-len store-len)) b
+RefusalsKeep = (c : Call) (units : List ℕ) (b : GdiState) (panel-len store-len : ℕ)
+    → (numberOf (plan c units b panel-len store-len) ≡ 0 → ⊥)
+    → plan c units b panel-len store-len ≡ refuse (numberOf (plan c units b panel-len store-len)) b

@@ -1,4 +1,5 @@
 -- What the slots past the count hold.
+use mathlib.Core.List.{List}
 use mathlib.Core.Path.{_≡_}
 use Prim.Native.Nat.{ℕ, _≤_, _<_}
 use Rattle.gdi.specs.declared.GdiState.{GdiState}
@@ -14,4 +15,4 @@ pub record Vacant (b : GdiState) : Type 0 where
 -- It is so of a fresh record, and stays so by every call.
 pub record StaysVacant : Type 0 where
   pub first : (panel-len store-len width height : ℕ) → Vacant (fresh panel-len store-len width height)
-  pub stays : (c : Call) (b : GdiState) (panel-len store-len : ℕ) → Vacant b → Vacant (plan c b panel-len store-len .outcome .state)
+  pub stays : (c : Call) (units : List ℕ) (b : GdiState) (panel-len store-len : ℕ) → Vacant b → Vacant (plan c units b panel-len store-len .outcome .state)

@@ -2,7 +2,7 @@
 use mathlib.Core.Path.{_≡_, refl}
 use mathlib.Core.Logic.{inl, inr}
 use Prim.Native.Nat.{ℕ, zero, suc, _+_, _*_, _≤_, _<_}
-use native.Mathlib.Nat.{le-refl, mul-comm, mul-le-mul, suc-mul, zero-mul}
+use native.Mathlib.Nat.{zero-mul}
 use native.Mathlib.Omega.{arith}
 use Rattle.primitives.specs.declared.memory.Sides.{Sides}
 use Rattle.primitives.specs.Cases.{Limited, Served, Paired, Apart}
@@ -11,12 +11,6 @@ use Rattle.primitives.specs.Cases.{Limited, Served, Paired, Apart}
 pub column : (w h : ℕ) → 0 < w * h → 0 < w
 column zero h p = rw zero-mul at p
 column (suc w) h p = omega arith
-
--- a row's words, and those of the rows before it
-pub in-surface : (row w h : ℕ) → row < h → row * w + w ≤ w * h
-in-surface row w h p =
-    let r : suc row ≤ h = omega arith in
-    omega (arith, suc-mul row w, mul-le-mul r (le-refl w), mul-comm h w)
 
 -- sides as they were read and tested, of one surface and of two
 pub served : {s : Sides} {n : ℕ} → Limited s → n ≡ s .w * s .h → 0 < n → n ≤ 76800 → Served s

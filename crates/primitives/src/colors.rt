@@ -170,7 +170,7 @@ fn widened_crc(block: u8) -> u32 {
     let mut bytes = [0u8; 768];
     let first = 256 * (block as u16);
     for k in 0u16..256 {
-        put_rgb(&mut bytes, 3 * (k as usize), first + k);
+        picture::put_rgb(&mut bytes, 3 * (k as usize), first + k);
     }
     crc32::crc32(&bytes)
 }
@@ -183,16 +183,6 @@ fn converted_crc(kind: u8, block: u8) -> u32 {
         put_word(&mut bytes, 2 * (k as usize), converted(kind, first + k));
     }
     crc32::crc32(&bytes)
-}
-
-// Puts R, G and B of a word, widened, from `at` on.
-pub fn put_rgb(out: &mut [u8], at: usize, v: u16)
-    requires { ⌜ at + 2 < length (now out) ⌝ }
-{
-    let w = color::rgb565_to_colorref(Rgb565(v));
-    out[at] = color::red(w);
-    out[at + 1] = color::green(w);
-    out[at + 2] = color::blue(w);
 }
 
 // Puts a word from `at` on, its high byte first.

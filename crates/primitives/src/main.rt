@@ -4,7 +4,6 @@ mod colors;
 mod drawing;
 mod line;
 mod memory;
-mod picture;
 mod within;
 
 use libc::STDIN_FILENO;
@@ -82,7 +81,7 @@ fn perform(s: &[u8], shown: bool) {
         return;
     }
     if ended.good {
-        picture::write(&mem, ended.surface);
+        picture::write(&mem, ended.surface.w, ended.surface.h);
     }
 }
 

@@ -5,16 +5,22 @@ use crate::same;
 ghost use Prim.Native.Nat.{_≤_};
 ghost use lib.ListN.{length};
 use color::Colorref;
+use color::Rgb565;
 use gdi::GDI_HANDLE_BASE;
 use gdi::GDI_SCREEN_DC;
 use gdi::GdiState;
 use gdi::STOCK_GRAY_BRUSH;
 use plan::Answer;
+use plan::Area;
 use plan::Call;
 use plan::Outcome;
+use plan::Point;
 
-// As many calls there are.
-const CALLS: u8 = 12;
+// As many tries there are: each of the eighteen calls, and blit by a second code.
+const TRIES: u8 = 19;
+
+// The units of the text.
+const UNITS: [u16; 3] = [0x52, 0x41, 0x56];
 
 // What all calls say of a record: 9, 8, or 0 for neither; that a refused one changed something; that they do not agree.
 pub enum Told {
@@ -65,7 +71,7 @@ fn by_all(state: GdiState, panel: &mut [u8], store: &mut [u8]) -> Told {
 
 // What all calls say if the first says this number.
 fn by_others(state: GdiState, no: u32, was: Crcs, panel: &mut [u8], store: &mut [u8]) -> Told {
-    for k in 1u8..CALLS {
+    for k in 1u8..TRIES {
         let next = by_one(state, k, was, panel, store);
         let Told::Number(other) = next else {
             return next;
@@ -77,11 +83,11 @@ fn by_others(state: GdiState, no: u32, was: Crcs, panel: &mut [u8], store: &mut 
     Told::Number(no)
 }
 
-// What call k says. The memories, filled, have these CRCs.
+// What try k says. The memories, filled, have these CRCs.
 fn by_one(state: GdiState, k: u8, was: Crcs, panel: &mut [u8], store: &mut [u8]) -> Told {
     fill(panel);
     fill(store);
-    let outcome = perform::perform(state, call(k), panel, store);
+    let outcome = perform::perform(state, call(k), &UNITS, panel, store);
     let no = common_refusal(outcome);
     if no == 0 {
         return Told::Number(0);
@@ -134,7 +140,7 @@ fn fill(mem: &mut [u8]) {
     }
 }
 
-// Call k of the twelve.
+// The call of try k.
 fn call(k: u8) -> Call {
     let color = Colorref(0x0012_3456);
     match k {
@@ -148,12 +154,13 @@ fn call(k: u8) -> Call {
         4 => Call::CreateFont(-12),
         5 => Call::Delete(GDI_HANDLE_BASE),
         6 => Call::Remove(GDI_HANDLE_BASE),
-        _ => dc_call(k, GDI_SCREEN_DC, color),
+        7..=11 => setting_call(k, GDI_SCREEN_DC, color),
+        _ => drawing_call(k, GDI_SCREEN_DC, GDI_HANDLE_BASE),
     }
 }
 
-// Call k of the twelve, from the eighth on: those on a DC.
-fn dc_call(k: u8, dc: u32, color: Colorref) -> Call {
+// The call of try k, from 7 to 11: those that change a DC.
+fn setting_call(k: u8, dc: u32, color: Colorref) -> Call {
     match k {
         7 => Call::SelectInto {
             dc,
@@ -165,6 +172,45 @@ fn dc_call(k: u8, dc: u32, color: Colorref) -> Call {
         _ => Call::SetBkMode {
             dc,
             transparent: true,
+        },
+    }
+}
+
+// The call of try k, from 12 on: those that draw, on the screen and on what may be a DC of the record.
+fn drawing_call(k: u8, dc: u32, other: u32) -> Call {
+    let area = Area {
+        x: -1,
+        y: 0,
+        w: 3,
+        h: 2,
+    };
+    let at = Point { x: 0, y: -1 };
+    match k {
+        12 => Call::PatternFill {
+            dc,
+            area,
+            rop: rop3::PATCOPY,
+        },
+        13 => Call::Rectangle { dc: other, area },
+        14 => Call::Text { dc, at },
+        15 => Call::PanelFill(Rgb565(0x1234)),
+        16 => Call::Resize {
+            width: 1,
+            height: 1,
+        },
+        17 => Call::Blit {
+            dc,
+            area,
+            src: other,
+            from: at,
+            rop: rop3::SRCCOPY,
+        },
+        _ => Call::Blit {
+            dc: other,
+            area,
+            src: dc,
+            from: at,
+            rop: rop3::DSTINVERT,
         },
     }
 }

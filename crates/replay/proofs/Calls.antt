@@ -1,11 +1,53 @@
--- A call that was read ends behind its start. Assumes nothing.
+-- The bytes of a call that was read. Assumes nothing.
+use mathlib.Core.Bool.{Bool, true, false, cond}
 use mathlib.Core.List.{List}
-use mathlib.Core.Path.{_≡_, subst}
-use Prim.Native.Nat.{ℕ, _<_}
+use mathlib.Core.Path.{_≡_, refl, sym, subst, _∙_}
+use Prim.Native.Nat.{ℕ, _+_, _*_, _≤_, _<_}
+use native.Mathlib.Omega.{arith}
+use lib.Dec.{leb}
+use lib.ListN.{getD, length}
+use borrow.Author.Tests.{leb-true, lt-ltb}
+use Rattle.bigendian.specs.BigEndian.{be32}
 use Rattle.plan.specs.declared.Call.{Call}
 use Rattle.script.specs.declared.CallRead.{CallRead}
-use Rattle.script.specs.declared.CallRead.the-variants.{Is}
-use Rattle.script.specs.Script.{Behind, Read}
+use Rattle.script.specs.declared.CallRead.the-variants.{End, Bad, Is}
+use Rattle.script.specs.Script.{Behind, Read, callOf, callAt}
+use Rattle.replay.specs.Calls.{CallBytes}
 
-pub ahead : {s : List ℕ} {at : ℕ} {r : CallRead} {c : Call} {next : ℕ} → Read s at r → r ≡ Is c next → at < next
-ahead {s} {at} h e = subst (Behind s at) e (h .behind) .0
+-- where the text at a byte may end
+abbrev TextEnds : ℕ → CallRead → Type 0
+TextEnds at End = Unit
+TextEnds at Bad = Unit
+TextEnds at (Is c next) = (at + 17 ≤ next) × (next ≤ at + 140017)
+
+units-end :
+    (at n : ℕ) (few there : Bool) (c : Call) → leb n 70000 ≡ few → TextEnds at (cond few (cond there (Is c (at + 1 + (16 + 2 * n))) Bad) Bad)
+units-end at n true true c e = omega (arith, leb-true n 70000 e)
+units-end at n true false c e = tt
+units-end at n false there c e = tt
+
+module _ (s : List ℕ) (at : ℕ) where
+  text-ends : TextEnds at (callOf 15 s (at + 1))
+  unfolding callOf
+  text-ends =
+      let n = be32 s (at + 1 + 12) in
+      units-end at n (leb n 70000) (leb (at + 1 + (16 + 2 * n)) (length s)) _ refl
+
+  text-at : at < length s → getD s at 0 ≡ 15 → callAt s at ≡ callOf 15 s (at + 1)
+  unfolding callAt
+  text-at lt k = rw (lt-ltb at (length s) lt, k)
+
+module _ {s : List ℕ} {at next : ℕ} {r : CallRead} {c : Call} (h : Read s at r) (e : r ≡ Is c next) where
+  behind : (at < next) × (next ≤ length s)
+  behind = subst (Behind s at) e (h .behind)
+
+  pub ahead : at < next
+  ahead = behind .0
+
+  pub call-bytes : at < length s → CallBytes s at next
+  call-bytes lt =
+      record {
+        some = ahead;
+        inside = behind .1;
+        text = λ k. subst (TextEnds at) (sym (h .same ∙ text-at s at lt k) ∙ e) (text-ends s at);
+      }

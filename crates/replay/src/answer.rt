@@ -4,14 +4,32 @@ ghost use Prim.Native.Nat.{_≤_};
 use lines::Line;
 use plan::Answer;
 
+// Prints the line of the call of this byte, if it is shown.
+pub fn show(byte: u8, a: Answer, shown: bool) {
+    if shown {
+        print(byte, a);
+    }
+}
+
 // Prints the line of the call of this byte.
-pub fn print(byte: u8, a: Answer) {
+fn print(byte: u8, a: Answer) {
     let l = lines::empty()
         .hex2(byte)
         .space()
-        .decimal(refusal_in(a) as u64)
-        .space();
-    add(l, byte, a).print();
+        .decimal(refusal_in(a) as u64);
+    if is_answered(byte) {
+        add(l.space(), byte, a).print();
+    } else {
+        l.print();
+    }
+}
+
+// Whether the call of this byte has an answer: every one but pattern fill, rectangle, panel fill, resize and blit.
+fn is_answered(byte: u8) -> bool {
+    match byte {
+        0x0D | 0x0E | 0x10 | 0x11 | 0x12 => false,
+        _ => true,
+    }
 }
 
 // The number of the refusal, 0 if there is none.
@@ -36,6 +54,8 @@ fn add(l: Line, byte: u8, a: Answer) -> Line
         Answer::OldColor(c) => l.hex8(c.0),
         Answer::OldAlign(align) => l.hex8(align),
         Answer::OldMode(transparent) => l.flag(transparent),
+        Answer::Drawn => l,
+        Answer::Advance(n) => l.decimal(n as u64),
     }
 }
 
@@ -45,7 +65,7 @@ fn add_zero(l: Line, byte: u8) -> Line
     ensures { λ r. ⌜ r .len ≤ 120 ⌝ }
 {
     match byte {
-        0x06 | 0x0C => l.flag(false),
+        0x06 | 0x0C | 0x0F => l.flag(false),
         0x07 => l.text(b"none"),
         _ => l.hex8(0),
     }

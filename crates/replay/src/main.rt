@@ -1,5 +1,5 @@
-// Performs a call script (docs/call-script.md) on the proved library, and prints what happened. What a call does is for the
-// library to prove; here every function is proved safe, and to end.
+// Performs a call script (docs/call-script.md) on the proved library, and prints what happened, or with the argument `ppm`
+// writes the panel's picture. What a call does is for the library to prove; here every function is proved safe, and to end.
 mod answer;
 mod object;
 mod session;
@@ -21,25 +21,41 @@ const MOST_STORE: usize = 4_194_304;
 
 // Reads the script, and one byte more if it is too long.
 fn main() {
+    let picture = is_picture_asked();
     let mut script = [0u8; LONGEST + 1];
     let n = io::read_full(STDIN_FILENO, &mut script);
-    run(&script[..n]);
+    run(&script[..n], picture);
+}
+
+// Whether the first argument is `ppm`.
+fn is_picture_asked() -> bool {
+    let mut word = [0u8; 3];
+    if os::arg(1, &mut word) < 3 {
+        return false;
+    }
+    if word[0] != b'p' {
+        return false;
+    }
+    if word[1] != b'p' {
+        return false;
+    }
+    word[2] == b'm'
 }
 
 // The whole of a script.
-fn run(s: &[u8]) {
+fn run(s: &[u8], picture: bool) {
     if LONGEST < s.len() {
         lines::empty().text(b"bad script").print();
         return;
     }
     match script::read_header(s) {
         HeaderRead::Bad => lines::empty().text(b"bad script").print(),
-        HeaderRead::Is(h) => serve(s, h),
+        HeaderRead::Is(h) => serve(s, h, picture),
     }
 }
 
 // A script with this header.
-fn serve(s: &[u8], h: Header) {
+fn serve(s: &[u8], h: Header, picture: bool) {
     if MOST_PANEL < (h.panel_len as usize) {
         lines::empty().text(b"too large").print();
         return;
@@ -48,14 +64,14 @@ fn serve(s: &[u8], h: Header) {
         lines::empty().text(b"too large").print();
         return;
     }
-    lend(s, h);
+    lend(s, h, picture);
 }
 
 // Lends memories of the lengths that the header asks for.
-fn lend(s: &[u8], h: Header)
+fn lend(s: &[u8], h: Header, picture: bool)
     requires { ⌜ (h .«panel_len» ≤ 1048576) × (h .«store_len» ≤ 4194304) ⌝ }
 {
     let mut panel = [0u8; MOST_PANEL];
     let mut store = [0u8; MOST_STORE];
-    session::on_parts(s, h, &mut panel, &mut store);
+    session::on_parts(s, h, picture, &mut panel, &mut store);
 }

@@ -1,29 +1,45 @@
-// A script's bench from open to the state lines, on lent memories.
+// A script's bench from open to its end, on lent memories.
 use crate::answer;
 use crate::state;
 ghost use Prim.Native.Nat.{_≤_};
 ghost use lib.ListN.{length};
+ghost use Rattle.replay.specs.Calls.{CallBytes};
 use gdi::GdiState;
 use plan::Opened;
 use script::CallRead;
 use script::Header;
 
+// The byte of a text.
+const TEXT: u8 = 0x0F;
+
+// The bytes of a text in front of its units.
+const BEFORE_UNITS: usize = 17;
+
 // A session on the memories' first bytes, as many as the header asks for.
-pub fn on_parts(s: &[u8], h: Header, panel: &mut [u8], store: &mut [u8])
+pub fn on_parts(s: &[u8], h: Header, picture: bool, panel: &mut [u8], store: &mut [u8])
     requires { ⌜ (h .«panel_len» ≤ length (now panel)) × (h .«store_len» ≤ length (now store)) ⌝ }
 {
     let panel_len = h.panel_len as usize;
     let store_len = h.store_len as usize;
-    run(s, h, &mut panel[0..panel_len], &mut store[0..store_len]);
+    run(
+        s,
+        h,
+        picture,
+        &mut panel[0..panel_len],
+        &mut store[0..store_len],
+    );
 }
 
 // A session on memories that are lent whole.
-fn run(s: &[u8], h: Header, panel: &mut [u8], store: &mut [u8]) {
+fn run(s: &[u8], h: Header, picture: bool, panel: &mut [u8], store: &mut [u8]) {
     fill(panel, h.fill);
     fill(store, h.fill);
     let opened = open::open(panel, store, h.width, h.height);
-    print_open(opened.refusal);
-    end(s, opened, panel, store);
+    if picture {
+        write_picture(s, opened, panel, store);
+    } else {
+        print_lines(s, opened, panel, store);
+    }
 }
 
 // Fills a memory with a byte.
@@ -41,31 +57,84 @@ fn print_open(refusal: u32) {
         .print();
 }
 
-// What follows the line of open: the calls unless it was refused, and the state lines.
-fn end(s: &[u8], opened: Opened, panel: &mut [u8], store: &mut [u8]) {
+// The line of open, those of the calls unless it was refused, and the state lines.
+fn print_lines(s: &[u8], opened: Opened, panel: &mut [u8], store: &mut [u8]) {
     let first = opened.state;
+    print_open(opened.refusal);
     if opened.refusal != 0 {
         state::print(first, panel, store);
         return;
     }
-    let last = perform_all(s, first, panel, store);
+    let last = perform_all(s, first, true, panel, store);
     state::print(last, panel, store);
 }
 
-// Performs and prints call after call, to the script's end or a bad one. The record after the last.
-fn perform_all(s: &[u8], first: GdiState, panel: &mut [u8], store: &mut [u8]) -> GdiState {
+// The panel after the calls as a picture, or the line of open if it was refused.
+fn write_picture(s: &[u8], opened: Opened, panel: &mut [u8], store: &mut [u8]) {
+    let first = opened.state;
+    if opened.refusal != 0 {
+        print_open(opened.refusal);
+        return;
+    }
+    let last = perform_all(s, first, false, panel, store);
+    write_panel(panel, last.width, last.height);
+}
+
+// A panel of these sides as a picture, if it has the bytes for them.
+fn write_panel(panel: &[u8], width: u32, height: u32) {
+    if picture::WIDEST < width {
+        return;
+    }
+    if panel.len() / 2 < (width as usize) * (height as usize) {
+        return;
+    }
+    picture::write(panel, width, height);
+}
+
+// Performs call after call, to the script's end or a bad one, and prints them if they are shown. The record after the last.
+fn perform_all(
+    s: &[u8],
+    first: GdiState,
+    shown: bool,
+    panel: &mut [u8],
+    store: &mut [u8],
+) -> GdiState {
     let mut bench = first;
+    let mut units = [0u16; script::MAX_UNITS];
     let mut at = script::HEADER;
     while at < s.len() {
         let CallRead::Is(call, next) = script::read_call(s, at) else {
-            lines::empty().text(b"bad call").print();
+            show_bad_call(shown);
             return bench;
         };
-        let outcome = perform::perform(bench, call, panel, store);
+        let n = take_units(s, at, next, &mut units);
+        let outcome = perform::perform(bench, call, &units[0..n], panel, store);
         let a = outcome.answer;
-        answer::print(s[at], a);
+        answer::show(s[at], a, shown);
         bench = outcome.state;
         at = next;
     }
     bench
+}
+
+// Puts the units of a text, whose bytes end before `next`, at the front of `units`. How many there are; 0 for another call.
+fn take_units(s: &[u8], at: usize, next: usize, units: &mut [u16]) -> usize
+    requires { ⌜ CallBytes (now s) at next ⌝ }
+    requires { ⌜ 70000 ≤ length (now units) ⌝ }
+    ensures { λ n. ⌜ n ≤ 70000 ⌝ }
+{
+    if s[at] != TEXT {
+        return 0;
+    }
+    let first = at + BEFORE_UNITS;
+    let n = (next - first) / 2;
+    script::read_units(s, first, n, units);
+    n
+}
+
+// Prints that the next call is bad, if calls are shown.
+fn show_bad_call(shown: bool) {
+    if shown {
+        lines::empty().text(b"bad call").print();
+    }
 }

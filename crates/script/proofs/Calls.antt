@@ -2,40 +2,79 @@
 -- Assumes nothing.
 use mathlib.Core.Bool.{Bool, true, false, cond, _&&_}
 use mathlib.Core.List.{List}
-use mathlib.Core.Path.{_≡_, refl}
-use Prim.Native.Nat.{ℕ, _+_, _≤_, _<_}
-use native.Mathlib.Decide.{decLe}
+use mathlib.Core.Path.{_≡_, refl, _∙_}
+use Prim.Native.Nat.{ℕ, _+_, _*_, _≤_, _<_, _^_}
+use native.Mathlib.Decide.{decLe, ℕ-discrete}
 use native.Mathlib.Omega.{arith}
 use lib.Dec.{eqb, leb}
+use lib.IntN.{ℤ}
 use lib.ListN.{length}
+use lib.Signed.{mag}
 use borrow.Author.Tests.{leb-true, le-leb, lt-leb, ne-eqb}
+use Rattle.laws.proofs.Machine.{held32, stored32}
 use Rattle.bigendian.specs.BigEndian.{be32}
 use Rattle.plan.specs.declared.Call.{Call}
 use Rattle.script.specs.declared.CallRead.{CallRead}
 use Rattle.script.specs.declared.CallRead.the-variants.{Bad}
 use Rattle.script.specs.Script.{sized, callOf, Behind}
 
-either-bad : (b : Bool) → cond b Bad Bad ≡ Bad
+pub either-bad : (b : Bool) → cond b Bad Bad ≡ Bad
 either-bad true = refl
 either-bad false = refl
 
+-- a coordinate that was read and is held as an i32
+pub coordinate : (z : ℤ) {y : ℤ} → mag z < 2 ^ 31 → z ≡ y → held32 z ≡ y
+coordinate z small e = stored32 z (record { sfits = small }) ∙ e
+
+-- a text's arguments end behind 16 bytes, whatever its number of units
+pub longer : (s : List ℕ) (p : ℕ) {n : ℕ} → n ≤ 16 → length s < p + n → leb (p + (16 + 2 * be32 s (p + 12))) (length s) ≡ false
+longer s p le h = lt-leb (p + (16 + 2 * be32 s (p + 12))) (length s) (omega arith)
+
 module _ (s : List ℕ) (p k : ℕ) where
+  -- fewer than n bytes are left for arguments of m bytes
+  short : (m : ℕ) {n : ℕ} → n ≤ m → length s < p + n → leb (p + m) (length s) ≡ false
+  short m le h = lt-leb (p + m) (length s) (omega arith)
+
   -- the first argument is cut, and the call has one
   pub first-cut : (k ≡ 1 → ⊥) → length s < p + 4 → Bad ≡ callOf k s p
   unfolding callOf
-  first-cut n h = rw (ne-eqb k 1 n, lt-leb (p + 4) (length s) h, lt-leb (p + 8) (length s) (omega arith)) (simp either-bad)
+  first-cut n h =
+      rw (ne-eqb k 1 n, short 4 (omega arith) h, short 8 (omega arith) h, short 20 (omega arith) h)
+      (rw (short 24 (omega arith) h, short 36 (omega arith) h, longer s p (omega arith) h) (simp either-bad))
 
   -- the second argument is cut, and the call has two
-  pub second-cut : (k ≡ 1 → ⊥) → (k ≡ 3 → ⊥) → (k ≡ 5 → ⊥) → (k ≡ 6 → ⊥) → (k ≡ 7 → ⊥) → length s < p + 8 → Bad ≡ callOf k s p
+  pub second-cut : (k ≡ 1 → ⊥) → (k ≡ 3 → ⊥) → (k ≡ 5 → ⊥) → (k ≡ 6 → ⊥) → (k ≡ 7 → ⊥) → (k ≡ 16 → ⊥) → length s < p + 8 → Bad ≡ callOf k s p
   unfolding callOf
-  second-cut n₁ n₃ n₅ n₆ n₇ h = rw (ne-eqb k 1 n₁, ne-eqb k 3 n₃, ne-eqb k 5 n₅, ne-eqb k 6 n₆, ne-eqb k 7 n₇, lt-leb (p + 8) (length s) h) (simp either-bad)
+  second-cut n₁ n₃ n₅ n₆ n₇ n₁₆ h =
+      rw (ne-eqb k 1 n₁, ne-eqb k 3 n₃, ne-eqb k 5 n₅, ne-eqb k 6 n₆, ne-eqb k 7 n₇, ne-eqb k 16 n₁₆)
+      (rw (short 8 (omega arith) h, short 20 (omega arith) h, short 24 (omega arith) h, short 36 (omega arith) h, longer s p (omega arith) h) (simp either-bad))
 
-  pub no-call : 12 < k → Bad ≡ callOf k s p
+  -- a pattern fill, a rectangle or a blit whose area is cut, and one whose next argument is
+  module _ (range : (13 ≤ k) × (14 < k → k ≡ 18)) where
+    pub next-cut : (k ≡ 14 → ⊥) → length s < p + 24 → Bad ≡ callOf k s p
+    unfolding callOf
+    next-cut n h = by (ℕ-discrete k 13)
+      where
+        by : Dec (k ≡ 13) → Bad ≡ callOf k s p
+        by (yes e) = rw (e, short 24 (omega arith) h)
+        by (no m) = rw (range .1 (omega arith), short 36 (omega arith) h)
+
+    pub area-cut : length s < p + 20 → Bad ≡ callOf k s p
+    unfolding callOf
+    area-cut h = by (ℕ-discrete k 14)
+      where
+        by : Dec (k ≡ 14) → Bad ≡ callOf k s p
+        by (yes e) = rw (e, short 20 (omega arith) h)
+        by (no n) = next-cut n (omega arith)
+
+  pub no-call : 18 < k → Bad ≡ callOf k s p
   unfolding callOf
-  no-call h = rw (other 1 refl, other 2 refl, other 3 refl, other 4 refl, other 5 refl, other 6 refl, other 7 refl, other 8 refl, other 9 refl, other 10 refl, other 11 refl, other 12 refl)
+  no-call h =
+      rw (other 1 refl, other 2 refl, other 3 refl, other 4 refl, other 5 refl, other 6 refl, other 7 refl, other 8 refl, other 9 refl)
+      (rw (other 10 refl, other 11 refl, other 12 refl, other 13 refl, other 14 refl, other 15 refl, other 16 refl, other 17 refl, other 18 refl))
     where
-      other : (n : ℕ) → leb n 12 ≡ true → eqb k n ≡ false
-      other n t = ne-eqb k n (λ e. omega (arith, leb-true n 12 t))
+      other : (n : ℕ) → leb n 18 ≡ true → eqb k n ≡ false
+      other n t = ne-eqb k n (λ e. omega (arith, leb-true n 18 t))
 
 record Ends (s : List ℕ) (at : ℕ) (r : CallRead) : Type 0 where
   ends : Behind s at r
@@ -67,7 +106,13 @@ module _ (s : List ℕ) (at : ℕ) where
       either (eqb k 9) (sized-ends 8 _) (
       either (eqb k 10) (sized-ends 8 _) (
       either (eqb k 11) (sized-ends 8 _) (
-      either (eqb k 12 && leb (be32 s (at + 1 + 4)) 1) (sized-ends 8 _) (record { ends = tt }))))))))))))
+      either (eqb k 12 && leb (be32 s (at + 1 + 4)) 1) (sized-ends 8 _) (
+      either (eqb k 13) (sized-ends 24 _) (
+      either (eqb k 14) (sized-ends 20 _) (
+      either (eqb k 15 && leb (be32 s (at + 1 + 12)) 70000) (sized-ends (16 + 2 * be32 s (at + 1 + 12)) _) (
+      either (eqb k 16 && leb (be32 s (at + 1)) 65535) (sized-ends 4 _) (
+      either (eqb k 17) (sized-ends 8 _) (
+      either (eqb k 18) (sized-ends 36 _) (record { ends = tt }))))))))))))))))))
 
   pub call-behind : (k : ℕ) → Behind s at (callOf k s (at + 1))
   call-behind k = call-ends k .ends

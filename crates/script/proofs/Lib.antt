@@ -1,2 +1,4 @@
 pub mod Calls
 pub mod Headers
+pub mod Texts
+pub mod Units

@@ -1,13 +1,15 @@
 -- A call script's bytes as a header and calls (docs/call-script.md). Numbers are most significant byte first.
-use mathlib.Core.Bool.{Bool, true, false, cond, _&&_}
-use mathlib.Core.List.{List}
+use mathlib.Core.Bool.{cond, _&&_}
+use mathlib.Core.List.{List, [], _∷_}
 use mathlib.Core.Path.{_≡_}
-use Prim.Native.Nat.{ℕ, _+_, _≤_, _<_}
+use Prim.Native.Nat.{ℕ, zero, suc, _+_, _*_, _≤_, _<_}
 use lib.Dec.{eqb, leb, ltb}
 use lib.ListN.{getD, length}
-use Rattle.bigendian.specs.BigEndian.{be32, signed32}
+use Rattle.bigendian.specs.BigEndian.{be16, be32, signed32}
+use Rattle.plan.specs.declared.Area.{Area}
+use Rattle.plan.specs.declared.Point.{Point}
 use Rattle.plan.specs.declared.Call.{Call}
-use Rattle.plan.specs.declared.Call.the-variants.{CreateMemoryDc, CreateCompatibleBitmap, CreateSolidBrush, CreatePen, CreateFont, Delete, Remove, SelectInto, SetTextColor, SetTextAlign, SetBkColor, SetBkMode}
+use Rattle.plan.specs.declared.Call.the-variants.{CreateMemoryDc, CreateCompatibleBitmap, CreateSolidBrush, CreatePen, CreateFont, Delete, Remove, SelectInto, SetTextColor, SetTextAlign, SetBkColor, SetBkMode, PatternFill, Rectangle, Text, PanelFill, Resize, Blit}
 use Rattle.script.specs.declared.HeaderRead.{HeaderRead}
 use Rattle.script.specs.declared.HeaderRead.the-variants.{Bad as BadHeader, Is as IsHeader}
 use Rattle.script.specs.declared.CallRead.{CallRead}
@@ -24,7 +26,21 @@ headerOf s =
 abbrev pub sized : List ℕ → (p n : ℕ) → Call → CallRead
 sized s p n c = cond (leb (p + n) (length s)) (Is c (p + n)) Bad
 
--- the call of byte k, whose arguments start at p: 32 bits each; a background mode is 0 or 1
+-- coordinates are signed
+abbrev pub pointAt : List ℕ → ℕ → Point
+pointAt s p = record { x = signed32 (be32 s p); y = signed32 (be32 s (p + 4)) }
+
+abbrev pub areaAt : List ℕ → ℕ → Area
+areaAt s p =
+    record { x = signed32 (be32 s p); y = signed32 (be32 s (p + 4)); w = signed32 (be32 s (p + 8)); h = signed32 (be32 s (p + 12)) }
+
+-- the n units of 16 bits from p on
+unfoldable pub unitsIn : List ℕ → (p n : ℕ) → List ℕ
+unitsIn s p zero = []
+unitsIn s p (suc n) = be16 s p ∷ unitsIn s (p + 2) n
+
+-- The call of byte k, whose arguments start at p: 32 bits each. A background mode is 0 or 1, a panel fill has no high bit set,
+-- and a text's number of units, the last of its arguments, is at most 70,000; its units stand behind them.
 unfoldable pub callOf : (k : ℕ) → List ℕ → (p : ℕ) → CallRead
 callOf k s p =
     cond (eqb k 1) (sized s p 0 CreateMemoryDc) (
@@ -38,8 +54,14 @@ callOf k s p =
     cond (eqb k 9) (sized s p 8 (SetTextColor (be32 s p) (record { 0 = be32 s (p + 4) }))) (
     cond (eqb k 10) (sized s p 8 (SetTextAlign (be32 s p) (be32 s (p + 4)))) (
     cond (eqb k 11) (sized s p 8 (SetBkColor (be32 s p) (record { 0 = be32 s (p + 4) }))) (
-    cond (eqb k 12 && leb (be32 s (p + 4)) 1) (sized s p 8 (SetBkMode (be32 s p) (eqb (be32 s (p + 4)) 1)))
-    Bad)))))))))))
+    cond (eqb k 12 && leb (be32 s (p + 4)) 1) (sized s p 8 (SetBkMode (be32 s p) (eqb (be32 s (p + 4)) 1))) (
+    cond (eqb k 13) (sized s p 24 (PatternFill (be32 s p) (areaAt s (p + 4)) (be32 s (p + 20)))) (
+    cond (eqb k 14) (sized s p 20 (Rectangle (be32 s p) (areaAt s (p + 4)))) (
+    cond (eqb k 15 && leb (be32 s (p + 12)) 70000) (sized s p (16 + 2 * be32 s (p + 12)) (Text (be32 s p) (pointAt s (p + 4)))) (
+    cond (eqb k 16 && leb (be32 s p) 65535) (sized s p 4 (PanelFill (record { 0 = be32 s p }))) (
+    cond (eqb k 17) (sized s p 8 (Resize (be32 s p) (be32 s (p + 4)))) (
+    cond (eqb k 18) (sized s p 36 (Blit (be32 s p) (areaAt s (p + 4)) (be32 s (p + 20)) (pointAt s (p + 24)) (be32 s (p + 32))))
+    Bad)))))))))))))))))
 
 -- what stands at a byte of the script: its end, or a call
 unfoldable pub callAt : List ℕ → ℕ → CallRead

@@ -1,16 +1,23 @@
 // A call script's bytes as a header and calls (docs/call-script.md).
+ghost use mathlib.Core.List.{_++_};
 ghost use mathlib.Core.Path.{_≡_};
-ghost use Prim.Native.Nat.{_≤_, _<_, _+_};
-ghost use lib.ListN.{length};
-ghost use Rattle.script.specs.Script.{headerOf, callOf, Read};
+ghost use Prim.Native.Nat.{_≤_, _<_, _+_, _*_};
+ghost use lib.ListN.{length, drop};
+ghost use Rattle.script.specs.Script.{headerOf, pointAt, areaAt, unitsIn, callOf, Read};
 use color::Colorref;
+use color::Rgb565;
+use plan::Area;
 use plan::Call;
+use plan::Point;
 
 // `GDI1`
 pub const MAGIC: u32 = 0x4744_4931;
 
 // The header's bytes.
 pub const HEADER: usize = 21;
+
+// The most units that a text may have.
+pub const MAX_UNITS: usize = 70_000;
 
 pub struct Header {
     pub panel_len: u32,
@@ -52,7 +59,7 @@ pub fn read_header(s: &[u8]) -> HeaderRead
 }
 
 // The create call of byte k, whose arguments start at p.
-pub fn read_create(s: &[u8], k: u8, p: usize) -> CallRead
+fn read_create(s: &[u8], k: u8, p: usize) -> CallRead
     requires { ⌜ (1 ≤ k) × (k ≤ 5) ⌝ }
     requires { ⌜ p ≤ length (now s) ⌝ }
     ensures { λ r. ⌜ r ≡ callOf k (now (s .entry)) p ⌝ }
@@ -95,7 +102,7 @@ pub fn read_create(s: &[u8], k: u8, p: usize) -> CallRead
 }
 
 // The delete, remove or select call of byte k, whose arguments start at p.
-pub fn read_object(s: &[u8], k: u8, p: usize) -> CallRead
+fn read_object(s: &[u8], k: u8, p: usize) -> CallRead
     requires { ⌜ (6 ≤ k) × (k ≤ 8) ⌝ }
     requires { ⌜ p ≤ length (now s) ⌝ }
     ensures { λ r. ⌜ r ≡ callOf k (now (s .entry)) p ⌝ }
@@ -119,7 +126,7 @@ pub fn read_object(s: &[u8], k: u8, p: usize) -> CallRead
 }
 
 // The setting of byte k, whose arguments start at p.
-pub fn read_setting(s: &[u8], k: u8, p: usize) -> CallRead
+fn read_setting(s: &[u8], k: u8, p: usize) -> CallRead
     requires { ⌜ (9 ≤ k) × (k ≤ 12) ⌝ }
     requires { ⌜ p ≤ length (now s) ⌝ }
     ensures { λ r. ⌜ r ≡ callOf k (now (s .entry)) p ⌝ }
@@ -163,8 +170,144 @@ pub fn read_setting(s: &[u8], k: u8, p: usize) -> CallRead
     )
 }
 
+// The point at byte p.
+fn read_point(s: &[u8], p: usize) -> Point
+    requires { ⌜ p + 8 ≤ length (now s) ⌝ }
+    ensures { λ r. ⌜ r ≡ pointAt (now (s .entry)) p ⌝ }
+{
+    let x = bigendian::read_i32(s, p);
+    let y = bigendian::read_i32(s, p + 4);
+    Point { x: x, y: y }
+}
+
+// The area at byte p.
+fn read_area(s: &[u8], p: usize) -> Area
+    requires { ⌜ p + 16 ≤ length (now s) ⌝ }
+    ensures { λ r. ⌜ r ≡ areaAt (now (s .entry)) p ⌝ }
+{
+    let x = bigendian::read_i32(s, p);
+    let y = bigendian::read_i32(s, p + 4);
+    let w = bigendian::read_i32(s, p + 8);
+    let h = bigendian::read_i32(s, p + 12);
+    Area {
+        x: x,
+        y: y,
+        w: w,
+        h: h,
+    }
+}
+
+// The pattern fill, rectangle or blit of byte k, whose arguments start at p.
+fn read_drawing(s: &[u8], k: u8, p: usize) -> CallRead
+    requires { ⌜ (13 ≤ k) × (14 < k → k ≡ 18) ⌝ }
+    requires { ⌜ p ≤ length (now s) ⌝ }
+    ensures { λ r. ⌜ r ≡ callOf k (now (s .entry)) p ⌝ }
+{
+    let left = s.len() - p;
+    if left < 20 {
+        return CallRead::Bad;
+    }
+    let dc = bigendian::read_u32(s, p);
+    let area = read_area(s, p + 4);
+    if k == 14 {
+        return CallRead::Is(Call::Rectangle { dc: dc, area: area }, p + 20);
+    }
+    if left < 24 {
+        return CallRead::Bad;
+    }
+    let a = bigendian::read_u32(s, p + 20);
+    if k == 13 {
+        return CallRead::Is(
+            Call::PatternFill {
+                dc: dc,
+                area: area,
+                rop: a,
+            },
+            p + 24,
+        );
+    }
+    if left < 36 {
+        return CallRead::Bad;
+    }
+    let from = read_point(s, p + 24);
+    let rop = bigendian::read_u32(s, p + 32);
+    CallRead::Is(
+        Call::Blit {
+            dc: dc,
+            area: area,
+            src: a,
+            from: from,
+            rop: rop,
+        },
+        p + 36,
+    )
+}
+
+// The text whose arguments start at p. Its units stand behind them.
+fn read_text(s: &[u8], p: usize) -> CallRead
+    requires { ⌜ p ≤ length (now s) ⌝ }
+    ensures { λ r. ⌜ r ≡ callOf 15 (now (s .entry)) p ⌝ }
+{
+    let left = s.len() - p;
+    if left < 16 {
+        return CallRead::Bad;
+    }
+    let n = bigendian::read_u32(s, p + 12) as usize;
+    if n > MAX_UNITS {
+        return CallRead::Bad;
+    }
+    let bytes = 16 + 2 * n;
+    if left < bytes {
+        return CallRead::Bad;
+    }
+    let dc = bigendian::read_u32(s, p);
+    let at = read_point(s, p + 4);
+    CallRead::Is(Call::Text { dc: dc, at: at }, p + bytes)
+}
+
+// The n units from p on, at the front of `units`; what stands behind them there is kept.
+pub fn read_units(s: &[u8], p: usize, n: usize, units: &mut [u16])
+    requires { ⌜ p + 2 * n ≤ length (now s) ⌝ }
+    requires { ⌜ n ≤ length (now units) ⌝ }
+    ensures { λ _. ⌜ now (units .exit) ≡ unitsIn (now (s .entry)) p n ++ drop n (now (units .entry)) ⌝ }
+{
+    for k in 0..n {
+        units[k] = bigendian::read_u16(s, p + 2 * k);
+    }
+}
+
+// The panel fill or resize of byte k, whose arguments start at p.
+fn read_panel(s: &[u8], k: u8, p: usize) -> CallRead
+    requires { ⌜ (16 ≤ k) × (k ≤ 17) ⌝ }
+    requires { ⌜ p ≤ length (now s) ⌝ }
+    ensures { λ r. ⌜ r ≡ callOf k (now (s .entry)) p ⌝ }
+{
+    let left = s.len() - p;
+    if left < 4 {
+        return CallRead::Bad;
+    }
+    let a = bigendian::read_u32(s, p);
+    if k == 16 {
+        if a > 0xffff {
+            return CallRead::Bad;
+        }
+        return CallRead::Is(Call::PanelFill(Rgb565(a as u16)), p + 4);
+    }
+    if left < 8 {
+        return CallRead::Bad;
+    }
+    let b = bigendian::read_u32(s, p + 4);
+    CallRead::Is(
+        Call::Resize {
+            width: a,
+            height: b,
+        },
+        p + 8,
+    )
+}
+
 // The call of byte k, whose arguments start at p.
-pub fn read_arguments(s: &[u8], k: u8, p: usize) -> CallRead
+fn read_arguments(s: &[u8], k: u8, p: usize) -> CallRead
     requires { ⌜ p ≤ length (now s) ⌝ }
     ensures { λ r. ⌜ r ≡ callOf k (now (s .entry)) p ⌝ }
 {
@@ -179,6 +322,18 @@ pub fn read_arguments(s: &[u8], k: u8, p: usize) -> CallRead
     }
     if k <= 12 {
         return read_setting(s, k, p);
+    }
+    if k <= 14 {
+        return read_drawing(s, k, p);
+    }
+    if k == 15 {
+        return read_text(s, p);
+    }
+    if k <= 17 {
+        return read_panel(s, k, p);
+    }
+    if k == 18 {
+        return read_drawing(s, k, p);
     }
     CallRead::Bad
 }

@@ -5,7 +5,7 @@ use mir.ValLaws.{toZ-ofZ}
 use borrow.Author.Needs.{needs}
 use Rattle.plan.specs.Calls.{act}
 use Rattle.plan.proofs.Select.{select-unpainted, setting-unpainted}
-use Rattle.perform.proofs.Performed.{sound-lent, few-objects, refused, did, did-unpainted}
+use Rattle.perform.proofs.Performed.{is-ready, sound-lent, sound-shown, few-objects, refused, followed, did, did-on-panel, did-unpainted}
 use Rattle.perform.proofs.perform.Statement.{statement}
 use Rattle.perform.proofs.perform.Tie as tie
 
@@ -13,7 +13,7 @@ common-refusal-requires : tie.Need-common-refusal-requires
 common-refusal-requires c κs = search needs
 
 returns : tie.Need-returns
-returns c = refused _ _ (c .before .common-refusal .ensures) _ (c .if1 .taken)
+returns c = refused _ _ _ (c .before .common-refusal .ensures) _ (c .if1 .taken)
 
 enum-told : tie.Need-enum-told
 enum-told c = search needs
@@ -111,6 +111,54 @@ set-bk-mode-requires c κs =
     let p = c .before .before .before in
     few-objects _ _ _ (p .before .common-refusal .ensures) (p .if1 .left)
 
+enum-known-call-12 : tie.Need-enum-known-call-12
+enum-known-call-12 c = search needs
+
+pattern-fill-requires : tie.Need-pattern-fill-requires
+pattern-fill-requires c κs =
+    let p = c .before .before .before .before .before in
+    is-ready _ _ _ (p .before .common-refusal .ensures) (p .if1 .left)
+
+enum-known-call-13 : tie.Need-enum-known-call-13
+enum-known-call-13 c = search needs
+
+rectangle-requires : tie.Need-rectangle-requires
+rectangle-requires c κs =
+    let p = c .before .before .before .before .before in
+    is-ready _ _ _ (p .before .common-refusal .ensures) (p .if1 .left)
+
+enum-known-call-14 : tie.Need-enum-known-call-14
+enum-known-call-14 c = search needs
+
+text-out-requires : tie.Need-text-out-requires
+text-out-requires c κs =
+    let p = c .before .before .before .before .before in
+    is-ready _ _ _ (p .before .common-refusal .ensures) (p .if1 .left)
+
+enum-known-call-15 : tie.Need-enum-known-call-15
+enum-known-call-15 c = search needs
+
+fill-requires : tie.Need-fill-requires
+fill-requires c κs =
+    let p = c .before .before .before .before in
+    sound-shown _ _ _ (p .before .common-refusal .ensures) (p .if1 .left)
+
+enum-known-call-16 : tie.Need-enum-known-call-16
+enum-known-call-16 c = search needs
+
+resize-requires : tie.Need-resize-requires
+resize-requires c κs =
+    let p = c .before .before .before .before in
+    sound-shown _ _ _ (p .before .common-refusal .ensures) (p .if1 .left)
+
+enum-known-call-17 : tie.Need-enum-known-call-17
+enum-known-call-17 c = search needs
+
+blit-requires : tie.Need-blit-requires
+blit-requires c κs =
+    let p = c .before .before .before .before .before in
+    is-ready _ _ _ (p .before .common-refusal .ensures) (p .if1 .left)
+
 same-length : tie.Need-same-length
 same-length c = search needs
 
@@ -118,7 +166,7 @@ returns-2 : tie.Need-returns-2
 unfolding act
 returns-2 c =
     let p = c .before .before .before .before .before .before in
-    did _ _ (p .before .common-refusal .ensures) (p .if1 .left) (c .before .before .before .before .enum-told .given .1) (c .before .before .create-memory-dc .ensures)
+    did _ _ _ (p .before .common-refusal .ensures) (p .if1 .left) (c .before .before .before .before .enum-told .given .1) (c .before .before .create-memory-dc .ensures)
 
 same-length-2 : tie.Need-same-length-2
 same-length-2 c = search needs
@@ -127,7 +175,7 @@ returns-3 : tie.Need-returns-3
 unfolding act
 returns-3 c =
     let p = c .before .before .before .before .before .before .before in
-    did _ _ (p .before .common-refusal .ensures) (p .if1 .left) (c .before .before .before .before .before .call .given .1) (c .before .before .create-compatible-bitmap .ensures)
+    did _ _ _ (p .before .common-refusal .ensures) (p .if1 .left) (c .before .before .before .before .before .call .given .1) (c .before .before .create-compatible-bitmap .ensures)
 
 same-length-3 : tie.Need-same-length-3
 same-length-3 c = search needs
@@ -136,7 +184,7 @@ returns-4 : tie.Need-returns-4
 unfolding act
 returns-4 c =
     let p = c .before .before .before .before .before .before .before in
-    did _ _ (p .before .common-refusal .ensures) (p .if1 .left) (c .before .before .before .before .before .call2 .given .1) (c .before .before .create-solid-brush .ensures)
+    did _ _ _ (p .before .common-refusal .ensures) (p .if1 .left) (c .before .before .before .before .before .call2 .given .1) (c .before .before .create-solid-brush .ensures)
 
 same-length-4 : tie.Need-same-length-4
 same-length-4 c = search needs
@@ -145,7 +193,7 @@ returns-5 : tie.Need-returns-5
 unfolding act
 returns-5 c =
     let p = c .before .before .before .before .before .before .before in
-    did _ _ (p .before .common-refusal .ensures) (p .if1 .left) (c .before .before .before .before .before .call3 .given .1) (c .before .before .create-pen .ensures)
+    did _ _ _ (p .before .common-refusal .ensures) (p .if1 .left) (c .before .before .before .before .before .call3 .given .1) (c .before .before .create-pen .ensures)
 
 same-length-5 : tie.Need-same-length-5
 same-length-5 c = search needs
@@ -155,7 +203,7 @@ unfolding act
 returns-6 c =
     let p = c .before .before .before .before .before .before .before in
     let q = c .before .before .before .before .before in
-    did _ _ (p .before .common-refusal .ensures) (p .if1 .left) (q .call4 .given .1)
+    did _ _ _ (p .before .common-refusal .ensures) (p .if1 .left) (q .call4 .given .1)
     (rw (toZ-ofZ w32 (q .call4 .given .0 .0) (record { sfits = c .before .before .before .before .known-told4 .given .0 .1 })) at (c .before .before .create-font .ensures))
 
 same-length-6 : tie.Need-same-length-6
@@ -165,7 +213,7 @@ returns-7 : tie.Need-returns-7
 unfolding act
 returns-7 c =
     let p = c .before .before .before .before .before .before .before in
-    did _ _ (p .before .common-refusal .ensures) (p .if1 .left) (c .before .before .before .before .before .call5 .given .1) (c .before .before .delete .ensures)
+    did _ _ _ (p .before .common-refusal .ensures) (p .if1 .left) (c .before .before .before .before .before .call5 .given .1) (c .before .before .delete .ensures)
 
 same-length-7 : tie.Need-same-length-7
 same-length-7 c = search needs
@@ -174,37 +222,103 @@ returns-8 : tie.Need-returns-8
 unfolding act
 returns-8 c =
     let p = c .before .before .before .before .before .before .before in
-    did _ _ (p .before .common-refusal .ensures) (p .if1 .left) (c .before .before .before .before .before .call6 .given .1) (c .before .before .remove .ensures)
+    did _ _ _ (p .before .common-refusal .ensures) (p .if1 .left) (c .before .before .before .before .before .call6 .given .1) (c .before .before .remove .ensures)
 
 returns-9 : tie.Need-returns-9
 unfolding act
 returns-9 c =
     let p = c .before .before .before .before in
-    did-unpainted _ _ (p .before .common-refusal .ensures) (p .if1 .left) (c .before .before .call7 .given .1) (c .select-into .ensures) (select-unpainted _ _ _ .paint)
+    did-unpainted _ _ _ (p .before .common-refusal .ensures) (p .if1 .left) (c .before .before .call7 .given .1) (c .select-into .ensures) (select-unpainted _ _ _ .paint)
 
 returns-10 : tie.Need-returns-10
 unfolding act
 returns-10 c =
     let p = c .before .before .before .before in
-    did-unpainted _ _ (p .before .common-refusal .ensures) (p .if1 .left) (c .before .before .call8 .given .1) (c .set-text-color .ensures) (setting-unpainted _ _ (λ d. refl) _ _ .paint)
+    did-unpainted _ _ _ (p .before .common-refusal .ensures) (p .if1 .left) (c .before .before .call8 .given .1) (c .set-text-color .ensures) (setting-unpainted _ _ (λ d. refl) _ _ .paint)
 
 returns-11 : tie.Need-returns-11
 unfolding act
 returns-11 c =
     let p = c .before .before .before .before in
-    did-unpainted _ _ (p .before .common-refusal .ensures) (p .if1 .left) (c .before .before .call9 .given .1) (c .set-text-align .ensures) (setting-unpainted _ _ (λ d. refl) _ _ .paint)
+    did-unpainted _ _ _ (p .before .common-refusal .ensures) (p .if1 .left) (c .before .before .call9 .given .1) (c .set-text-align .ensures) (setting-unpainted _ _ (λ d. refl) _ _ .paint)
 
 returns-12 : tie.Need-returns-12
 unfolding act
 returns-12 c =
     let p = c .before .before .before .before in
-    did-unpainted _ _ (p .before .common-refusal .ensures) (p .if1 .left) (c .before .before .call10 .given .1) (c .set-bk-color .ensures) (setting-unpainted _ _ (λ d. refl) _ _ .paint)
+    did-unpainted _ _ _ (p .before .common-refusal .ensures) (p .if1 .left) (c .before .before .call10 .given .1) (c .set-bk-color .ensures) (setting-unpainted _ _ (λ d. refl) _ _ .paint)
 
 returns-13 : tie.Need-returns-13
 unfolding act
 returns-13 c =
     let p = c .before .before .before .before in
-    did-unpainted _ _ (p .before .common-refusal .ensures) (p .if1 .left) (c .before .before .call11 .given .1) (c .set-bk-mode .ensures) (setting-unpainted _ _ (λ d. refl) _ _ .paint)
+    did-unpainted _ _ _ (p .before .common-refusal .ensures) (p .if1 .left) (c .before .before .call11 .given .1) (c .set-bk-mode .ensures) (setting-unpainted _ _ (λ d. refl) _ _ .paint)
+
+same-length-8 : tie.Need-same-length-8
+same-length-8 c = search needs
+
+same-length-9 : tie.Need-same-length-9
+same-length-9 c = search needs
+
+returns-14 : tie.Need-returns-14
+unfolding act
+returns-14 c =
+    let p = c .before .before .before .before .before .before .before .before .before .before in
+    followed _ _ _ (p .before .common-refusal .ensures) (p .if1 .left) (c .before .before .before .before .before .before .before .before .call12 .given .1) (c .before .before .before .before .pattern-fill .ensures)
+
+same-length-10 : tie.Need-same-length-10
+same-length-10 c = search needs
+
+same-length-11 : tie.Need-same-length-11
+same-length-11 c = search needs
+
+returns-15 : tie.Need-returns-15
+unfolding act
+returns-15 c =
+    let p = c .before .before .before .before .before .before .before .before .before .before in
+    followed _ _ _ (p .before .common-refusal .ensures) (p .if1 .left) (c .before .before .before .before .before .before .before .before .call13 .given .1) (c .before .before .before .before .rectangle .ensures)
+
+same-length-12 : tie.Need-same-length-12
+same-length-12 c = search needs
+
+same-length-13 : tie.Need-same-length-13
+same-length-13 c = search needs
+
+returns-16 : tie.Need-returns-16
+unfolding act
+returns-16 c =
+    let p = c .before .before .before .before .before .before .before .before .before .before in
+    followed _ _ _ (p .before .common-refusal .ensures) (p .if1 .left) (c .before .before .before .before .before .before .before .before .call14 .given .1) (c .before .before .before .before .text-out .ensures)
+
+same-length-14 : tie.Need-same-length-14
+same-length-14 c = search needs
+
+returns-17 : tie.Need-returns-17
+unfolding act
+returns-17 c =
+    let p = c .before .before .before .before .before .before .before in
+    did-on-panel _ _ _ (p .before .common-refusal .ensures) (p .if1 .left) (c .before .before .before .before .before .call15 .given .1) (c .before .before .fill .ensures)
+
+same-length-15 : tie.Need-same-length-15
+same-length-15 c = search needs
+
+returns-18 : tie.Need-returns-18
+unfolding act
+returns-18 c =
+    let p = c .before .before .before .before .before .before .before in
+    did-on-panel _ _ _ (p .before .common-refusal .ensures) (p .if1 .left) (c .before .before .before .before .before .call16 .given .1) (c .before .before .resize .ensures)
+
+same-length-16 : tie.Need-same-length-16
+same-length-16 c = search needs
+
+same-length-17 : tie.Need-same-length-17
+same-length-17 c = search needs
+
+returns-19 : tie.Need-returns-19
+unfolding act
+returns-19 c =
+    let p = c .before .before .before .before .before .before .before .before .before .before in
+    followed _ _ _ (p .before .common-refusal .ensures) (p .if1 .left) (c .before .before .before .before .before .before .before .before .call17 .given .1) (c .before .before .before .before .blit .ensures)
 
 pub perform-spec : {M : Type 1} → statement M
 perform-spec =
@@ -236,6 +350,18 @@ perform-spec =
     set-bk-color-requires
     enum-known-call-11
     set-bk-mode-requires
+    enum-known-call-12
+    pattern-fill-requires
+    enum-known-call-13
+    rectangle-requires
+    enum-known-call-14
+    text-out-requires
+    enum-known-call-15
+    fill-requires
+    enum-known-call-16
+    resize-requires
+    enum-known-call-17
+    blit-requires
     same-length
     returns-2
     same-length-2
@@ -254,4 +380,20 @@ perform-spec =
     returns-10
     returns-11
     returns-12
-    returns-13)
+    returns-13
+    same-length-8
+    same-length-9
+    returns-14
+    same-length-10
+    same-length-11
+    returns-15
+    same-length-12
+    same-length-13
+    returns-16
+    same-length-14
+    returns-17
+    same-length-15
+    returns-18
+    same-length-16
+    same-length-17
+    returns-19)

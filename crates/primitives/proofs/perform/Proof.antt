@@ -1,5 +1,6 @@
 -- `primitives::perform` is safe and ends: the memory is as long as it is declared, also after the cases. Assumes nothing.
 use mathlib.Core.Path.{_≡_, sym, _∙_}
+use native.Mathlib.Omega.{arith}
 use lib.ListN.{length}
 use Rattle.laws.proofs.Arrays.{zeros}
 use Rattle.primitives.proofs.perform.Statement.{statement}
@@ -23,7 +24,9 @@ slice-aggregate-write : tie.Need-slice-aggregate-write
 slice-aggregate-write c = sym (kept (c .before .before .before .before))
 
 write-requires : tie.Need-write-requires
-write-requires c κs = let b = c .before .before .before .before in (kept b, b .run-cases .ensures)
+write-requires c κs =
+    let b = c .before .before .before .before in
+    (b .run-cases .ensures .sides .width, omega (arith, kept b, b .run-cases .ensures .room))
 
 returns-2 : tie.Need-returns-2
 returns-2 c = tt

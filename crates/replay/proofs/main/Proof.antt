@@ -3,6 +3,9 @@ use Rattle.laws.proofs.Arrays.{zeros}
 use Rattle.replay.proofs.main.Statement.{statement}
 use Rattle.replay.proofs.main.Tie as tie
 
+is-picture-asked-requires : tie.Need-is-picture-asked-requires
+is-picture-asked-requires c κs = tt
+
 slice-aggregate-read-full : tie.Need-slice-aggregate-read-full
 slice-aggregate-read-full c = zeros 1048577
 
@@ -25,6 +28,7 @@ pub main-spec : {M : Type 1} → statement M
 main-spec =
     tie.close
     (tie.spec
+    is-picture-asked-requires
     slice-aggregate-read-full
     read-full-requires
     array-share-prefix-script

@@ -44,7 +44,7 @@ unfolding callOf
 returns-4 c = let a = c .before .before .before .before .before .before .before .args in rw (c .before .if4 .taken, stored32 (c .read-i32 .result) (record { sfits = c .read-i32 .ok }), c .read-i32 .ensures, le-leb (a .p + 4) (length (now (a .s))) (omega arith))
 
 returns-5 : tie.Need-returns-5
-returns-5 c = second-cut _ _ _ (c .before .before .before .before .before .if1 .left) (c .before .before .if3 .left) (c .before .if4 .left) (λ e. omega arith) (λ e. omega arith) (omega arith)
+returns-5 c = second-cut _ _ _ (c .before .before .before .before .before .if1 .left) (c .before .before .if3 .left) (c .before .if4 .left) (λ e. omega arith) (λ e. omega arith) (λ e. omega arith) (omega arith)
 
 add-read-u32 : tie.Need-add-read-u32
 add-read-u32 c = search needs

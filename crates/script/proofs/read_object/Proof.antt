@@ -35,7 +35,7 @@ unfolding callOf
 returns-3 c = let a = c .before .before .before .before .before .args in rw (c .if3 .taken, c .before .before .read-u32 .ensures, le-leb (a .p + 4) (length (now (a .s))) (omega arith))
 
 returns-4 : tie.Need-returns-4
-returns-4 c = second-cut _ _ _ (λ e. omega arith) (λ e. omega arith) (λ e. omega arith) (c .before .before .if2 .left) (c .before .if3 .left) (omega arith)
+returns-4 c = second-cut _ _ _ (λ e. omega arith) (λ e. omega arith) (λ e. omega arith) (c .before .before .if2 .left) (c .before .if3 .left) (λ e. omega arith) (omega arith)
 
 add-read-u32 : tie.Need-add-read-u32
 add-read-u32 c = search needs

@@ -1,21 +1,23 @@
--- `replay::session::perform_all` is safe and ends. The invariant: the memories keep their lengths. The measure is what is left of the script. Assumes nothing.
-use mathlib.Core.Path.{_≡_}
+-- `replay::session::perform_all` is safe and ends. The invariant: the memories and the units keep their lengths. The measure is what is left of the script. Assumes nothing.
+use mathlib.Core.Path.{_≡_, refl, sym, _∙_}
 use Prim.Native.Nat.{_-_}
 use native.Mathlib.Omega.{arith}
 use lib.ListN.{length}
 use borrow.Author.Needs.{needs}
-use Rattle.replay.proofs.Calls.{ahead}
+use Rattle.laws.proofs.Arrays.{zeros}
+use Rattle.replay.proofs.Calls.{ahead, call-bytes}
 use Rattle.replay.proofs.session.perform_all.Statement.{statement}
 use Rattle.replay.proofs.session.perform_all.Tie as tie
 
 abbrev Inv-loop : tie.InvT-loop
-Inv-loop s panel₀ store₀ bench₀ at₀ t11 panel store bench at = (length panel ≡ length panel₀) × (length store ≡ length store₀)
+Inv-loop s shown panel₀ store₀ bench₀ units₀ at₀ panel store bench units at =
+    (length panel ≡ length panel₀) × ((length store ≡ length store₀) × (length units ≡ 70000))
 
 abbrev μ-loop : tie.MeasureT-loop
-μ-loop s panel₀ store₀ bench₀ at₀ t11 panel store bench at = length s - at
+μ-loop s shown panel₀ store₀ bench₀ units₀ at₀ panel store bench units at = length s - at
 
 loop-holds : tie.Need-loop-holds Inv-loop μ-loop
-loop-holds c = search needs
+loop-holds c = (refl, (refl, sym (zeros 70000)))
 
 read-call-requires : tie.Need-read-call-requires Inv-loop μ-loop
 read-call-requires c κs = search needs
@@ -23,17 +25,8 @@ read-call-requires c κs = search needs
 enum-known-call : tie.Need-enum-known-call Inv-loop μ-loop
 enum-known-call c = search needs
 
-empty-requires : tie.Need-empty-requires Inv-loop μ-loop
-empty-requires c κs = search needs
-
-slice-aggregate-text : tie.Need-slice-aggregate-text Inv-loop μ-loop
-slice-aggregate-text c = search needs
-
-text-requires : tie.Need-text-requires Inv-loop μ-loop
-text-requires c κs = search needs
-
-print-requires : tie.Need-print-requires Inv-loop μ-loop
-print-requires c κs = search needs
+show-bad-call-requires : tie.Need-show-bad-call-requires Inv-loop μ-loop
+show-bad-call-requires c κs = search needs
 
 same-length : tie.Need-same-length Inv-loop μ-loop
 same-length c = search needs
@@ -44,20 +37,47 @@ same-length-2 c = search needs
 returns : tie.Need-returns Inv-loop μ-loop
 returns c = search needs
 
+slice-aggregate-take-units : tie.Need-slice-aggregate-take-units Inv-loop μ-loop
+slice-aggregate-take-units c = search needs
+
+take-units-requires : tie.Need-take-units-requires Inv-loop μ-loop
+take-units-requires c κs =
+    let read = c .before .before .before .before in (
+      call-bytes (read .read-call .ensures) (c .before .before .call .given .1) (read .before .loop-test .taken),
+      omega (arith, read .before .before .loop .inv),
+    )
+
+sub-perform : tie.Need-sub-perform Inv-loop μ-loop
+sub-perform c = search needs
+
+part-perform-start : tie.Need-part-perform-start Inv-loop μ-loop
+part-perform-start c = search needs
+
+part-perform-end : tie.Need-part-perform-end Inv-loop μ-loop
+part-perform-end c = search needs
+
 perform-requires : tie.Need-perform-requires Inv-loop μ-loop
 perform-requires c κs = search needs
 
-shared-slice-read-print : tie.Need-shared-slice-read-print Inv-loop μ-loop
-shared-slice-read-print c = search needs
+shared-slice-read-show : tie.Need-shared-slice-read-show Inv-loop μ-loop
+shared-slice-read-show c = search needs
 
-print-requires-2 : tie.Need-print-requires-2 Inv-loop μ-loop
-print-requires-2 c κs = search needs
+show-requires : tie.Need-show-requires Inv-loop μ-loop
+show-requires c κs = search needs
 
 loop-less : tie.Need-loop-less Inv-loop μ-loop
-loop-less c = omega (arith, ahead (c .before .before .before .before .before .before .before .before .before .before .before .before .before .read-call .ensures) (c .before .before .before .before .before .before .before .before .before .before .before .call .given .1), c .before .before .before .before .before .before .before .before .before .before .before .before .before .before .loop-test .taken)
+loop-less c =
+    let told = c .before .before .before .before .before .before .before .before .before .before .before .before .before .before .before .before in
+    omega (arith, ahead (told .before .before .read-call .ensures) (told .call .given .1), told .before .before .before .loop-test .taken)
 
 loop-again : tie.Need-loop-again Inv-loop μ-loop
-loop-again c = search needs
+loop-again c =
+    let done = c .before .before .before .before .before .before .before in
+    let taken = done .before .before .before .before .before .before in
+    let held = taken .before .before .before .before .before .before .before .loop .inv in (
+      done .perform .kept .1 .1 .1 .0 ∙ held .0,
+      (done .perform .kept .1 .1 .1 .1 .0 ∙ held .1 .0, taken .take-units .kept .1 .1 .1 .0 ∙ held .1 .1),
+    )
 
 same-length-3 : tie.Need-same-length-3 Inv-loop μ-loop
 same-length-3 c = search needs
@@ -77,16 +97,18 @@ perform-all-spec =
     loop-holds
     read-call-requires
     enum-known-call
-    empty-requires
-    slice-aggregate-text
-    text-requires
-    print-requires
+    show-bad-call-requires
     same-length
     same-length-2
     returns
+    slice-aggregate-take-units
+    take-units-requires
+    sub-perform
+    part-perform-start
+    part-perform-end
     perform-requires
-    shared-slice-read-print
-    print-requires-2
+    shared-slice-read-show
+    show-requires
     loop-less
     loop-again
     same-length-3

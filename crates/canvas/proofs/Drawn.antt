@@ -1,0 +1,57 @@
+-- What the operation of a drawing leaves is the drawing's definition. Assumes nothing.
+use mathlib.Core.Bool.{Bool}
+use mathlib.Core.List.{List}
+use mathlib.Core.Path.{_≡_, refl, _∙_, subst}
+use Prim.Native.Nat.{ℕ, _≤_, _<_}
+use lib.Dec.{ltb}
+use mir.Syntax.{w32}
+use mir.Val.{SFits}
+use Rattle.laws.proofs.Machine.{held32, stored32}
+use Rattle.words.specs.Words.{painted, word}
+use Rattle.words.proofs.Painted.{painted-same}
+use Rattle.rop3.specs.Rop3.{tableOf, applied}
+use Rattle.rop3.proofs.Codes.{applied-pattern}
+use Rattle.surface.specs.Region.{wordsOf}
+use Rattle.fill.specs.Fill.{filledRop, fillMarks}
+use Rattle.outline.specs.Outline.{outlined, outlineMarks}
+use Rattle.text.specs.Ink.{textInk}
+use Rattle.plan.specs.declared.Area.{Area}
+use Rattle.plan.specs.declared.Point.{Point}
+use Rattle.canvas.specs.declared.Drawing.{Drawing}
+use Rattle.canvas.specs.declared.Drawing.the-variants.{Fill, Outline, Text}
+use Rattle.canvas.specs.Canvas.{marksOf, drawnOf, Countable}
+
+-- one colour is PATCOPY's table on it
+solid : (P : ℕ → Bool) (c : ℕ) (m : List ℕ) → c < 65536 → painted P (λ _. c) m ≡ painted P (λ i. applied 0xF0 c 0 (word m i)) m
+solid P c m small =
+    painted-same P P (λ _. c) (λ i. applied 0xF0 c 0 (word m i)) m (λ i lt. refl) (λ i lt t. applied-pattern c 0 (word m i) small)
+
+-- the mark and the bytes are a drawing's
+abbrev pub Drawn : Drawing → (units : List ℕ) → (color width height : ℕ) → (m : List ℕ) → Bool → (m′ : List ℕ) → Type 0
+Drawn g us c width height m t m′ = (t ≡ marksOf g width height) × (m′ ≡ drawnOf g us c width m)
+
+module _ {g : Drawing} (us : List ℕ) (c width height : ℕ) (m : List ℕ) {m′ : List ℕ} where
+  module _ {t : Bool} {a : Area} (x : SFits w32 (a .x)) (y : SFits w32 (a .y)) (w : SFits w32 (a .w)) (h : SFits w32 (a .h)) where
+    pub as-fill : {rop : ℕ} → g ≡ Fill a rop → t ≡ fillMarks width height (held32 (a .x)) (held32 (a .y)) (held32 (a .w)) (held32 (a .h))
+        → m′ ≡ filledRop width (held32 (a .x)) (held32 (a .y)) (held32 (a .w)) (held32 (a .h)) (tableOf rop) c m
+        → Drawn g us c width height m t m′
+    as-fill e p q = (
+      p ∙ rw (stored32 (a .x) x, stored32 (a .y) y, stored32 (a .w) w, stored32 (a .h) h, e),
+      q ∙ rw (stored32 (a .x) x, stored32 (a .y) y, stored32 (a .w) w, stored32 (a .h) h, e),
+    )
+
+    pub as-outline : c < 65536 → g ≡ Outline a → t ≡ outlineMarks (held32 (a .w)) (held32 (a .h))
+        → m′ ≡ outlined width (held32 (a .x)) (held32 (a .y)) (held32 (a .w)) (held32 (a .h)) c m
+        → Drawn g us c width height m t m′
+    as-outline small e p q = (
+      p ∙ rw (stored32 (a .w) w, stored32 (a .h) h, e),
+      q ∙ solid _ c m small ∙ rw (stored32 (a .x) x, stored32 (a .y) y, stored32 (a .w) w, stored32 (a .h) h, e),
+    )
+
+  pub as-text : {p : Point} {n : ℕ} → SFits w32 (p .x) → SFits w32 (p .y) → c < 65536 → g ≡ Text p n
+      → m′ ≡ painted (wordsOf width (textInk us n (held32 (p .x)) (held32 (p .y)))) (λ _. c) m
+      → Drawn g us c width height m (ltb 0 n) m′
+  as-text {p} x y small e q = (rw e, q ∙ solid _ c m small ∙ rw (stored32 (p .x) x, stored32 (p .y) y, e))
+
+pub countable : {g : Drawing} (len : ℕ) {p : Point} {n : ℕ} → Countable g len → g ≡ Text p n → (n ≤ len) × (n ≤ 65535)
+countable len k e = subst (λ (v : Drawing). Countable v len) e k

@@ -1,0 +1,79 @@
+-- `canvas::draw_on` meets its contract. Assumes nothing.
+use native.Mathlib.Omega.{arith}
+use borrow.Author.Needs.{needs}
+use Rattle.canvas.proofs.Drawn.{as-fill, as-outline, as-text, countable}
+use Rattle.canvas.proofs.draw_on.Statement.{statement}
+use Rattle.canvas.proofs.draw_on.Tie as tie
+
+enum-known-drawing : tie.Need-enum-known-drawing
+enum-known-drawing c = search needs
+
+fill-box-rop-requires : tie.Need-fill-box-rop-requires
+fill-box-rop-requires c κs = search needs
+
+enum-known-drawing-2 : tie.Need-enum-known-drawing-2
+enum-known-drawing-2 c = search needs
+
+stroke-box-requires : tie.Need-stroke-box-requires
+stroke-box-requires c κs = search needs
+
+enum-known-drawing-3 : tie.Need-enum-known-drawing-3
+enum-known-drawing-3 c = search needs
+
+draw-units-requires : tie.Need-draw-units-requires
+draw-units-requires c κs =
+    let s = c .before .before .before .before .before .before .before .before in
+    (s .pre .0, countable _ (s .pre .1) (c .before .before .before .before .drawing3 .given .1))
+
+same-length : tie.Need-same-length
+same-length c = search needs
+
+returns : tie.Need-returns
+returns c =
+    let a = c .before .before .before .before .before .before .before .before .before .before .before .before .before .args in
+    let f = c .before .before .before .before .before .before .struct-told .given in
+    let r = c .before .before .fill-box-rop .ensures in
+    as-fill (a .units .now) (a .color .0) (a .width) (a .height) (a .pixels .now)
+    (record { sfits = f .0 .1 }) (record { sfits = f .1 .0 .1 }) (record { sfits = f .1 .1 .0 .1 }) (record { sfits = f .1 .1 .1 .0 .1 })
+    (c .before .before .before .before .before .before .before .before .before .drawing .given .1) (r .0) (r .1)
+
+same-length-2 : tie.Need-same-length-2
+same-length-2 c = search needs
+
+returns-2 : tie.Need-returns-2
+returns-2 c =
+    let s = c .before .before .before .before .before .before .before .before .before .before .before .before .before in
+    let a = s .args in
+    let f = c .before .before .before .before .before .before .struct-told5 .given in
+    let r = c .before .before .stroke-box .ensures in
+    as-outline (a .units .now) (a .color .0) (a .width) (a .height) (a .pixels .now)
+    (record { sfits = f .0 .1 }) (record { sfits = f .1 .0 .1 }) (record { sfits = f .1 .1 .0 .1 }) (record { sfits = f .1 .1 .1 .0 .1 })
+    (omega (arith, s .good .1 .1 .1 .1 .1 .0)) (c .before .before .before .before .before .before .before .before .before .drawing2 .given .1) (r .0) (r .1)
+
+same-length-3 : tie.Need-same-length-3
+same-length-3 c = search needs
+
+returns-3 : tie.Need-returns-3
+returns-3 c =
+    let s = c .before .before .before .before .before .before .before .before .before .before .before in
+    let a = s .args in
+    let f = c .before .before .before .before .struct-told9 .given in
+    as-text (a .units .now) (a .color .0) (a .width) (a .height) (a .pixels .now) (record { sfits = f .0 .1 }) (record { sfits = f .1 .0 .1 })
+    (omega (arith, s .good .1 .1 .1 .1 .1 .0)) (c .before .before .before .before .before .before .before .drawing3 .given .1) (c .before .before .draw-units .ensures)
+
+pub draw-on-spec : {M : Type 1} → statement M
+draw-on-spec =
+    tie.close
+    (tie.spec
+    enum-known-drawing
+    fill-box-rop-requires
+    enum-known-drawing-2
+    stroke-box-requires
+    enum-known-drawing-3
+    draw-units-requires
+    same-length
+    returns
+    same-length-2
+    returns-2
+    same-length-3
+    returns-3)

@@ -1,0 +1,88 @@
+// Fills, outlines and text on a surface, wherever it lies: its part of one of the two memories is lent to the operation.
+ghost use mathlib.Core.Path.{_≡_};
+ghost use lib.ListN.{length};
+ghost use Rattle.surface.specs.Refusal.{InOrder};
+ghost use Rattle.place.specs.Place.{Within};
+ghost use Rattle.paint.specs.Memories.{memories, widthOf, over};
+ghost use Rattle.plan.specs.Drawing.{marksAt};
+ghost use Rattle.canvas.specs.Canvas.{Countable, marksOf, drawnOf};
+use color::Rgb565;
+use place::Memory;
+use place::Place;
+use plan::Area;
+use plan::Point;
+
+// What is drawn in a colour: an area under a raster code, an area's outline, or the first count units of a text.
+pub enum Drawing {
+    Fill { area: Area, rop: u32 },
+    Outline(Area),
+    Text { at: Point, count: usize },
+}
+
+// Draws on a surface, wherever it lies. Whether a mark is due.
+pub fn draw_at(
+    panel: &mut [u8],
+    store: &mut [u8],
+    at: Place,
+    drawing: Drawing,
+    units: &[u16],
+    color: Rgb565,
+) -> bool
+    requires { ⌜ Within (length (now panel)) (length (now store)) at ⌝ }
+    requires { ⌜ Countable drawing (length (now units)) ⌝ }
+    ensures { λ r. ⌜ r ≡ marksAt at (marksOf drawing) ⌝ }
+    ensures bytes { λ _. ⌜ memories (now (panel .exit)) (now (store .exit)) ≡ over at (drawnOf drawing (now (units .entry)) (color .0) (widthOf at)) (memories (now (panel .entry)) (now (store .entry))) ⌝ }
+{
+    match at {
+        Place::Nowhere => false,
+        Place::At(m, p, width, height) => {
+            let n = 2 * ((width * height) as usize);
+            match m {
+                Memory::Panel => {
+                    draw_on(&mut panel[p..p + n], width, height, drawing, units, color)
+                }
+                Memory::Store => {
+                    draw_on(&mut store[p..p + n], width, height, drawing, units, color)
+                }
+            }
+        }
+    }
+}
+
+// Draws on the bytes of a surface that is in order. Whether a mark is due.
+pub fn draw_on(
+    pixels: &mut [u8],
+    width: u32,
+    height: u32,
+    drawing: Drawing,
+    units: &[u16],
+    color: Rgb565,
+) -> bool
+    requires { ⌜ InOrder width height (length (now pixels)) ⌝ }
+    requires { ⌜ Countable drawing (length (now units)) ⌝ }
+    ensures { λ r. ⌜ r ≡ marksOf drawing width height ⌝ }
+    ensures bytes { λ _. ⌜ now (pixels .exit) ≡ drawnOf drawing (now (units .entry)) (color .0) width (now (pixels .entry)) ⌝ }
+{
+    match drawing {
+        Drawing::Fill { area, rop } => {
+            fill::fill_box_rop(
+                pixels,
+                width,
+                height,
+                area.x,
+                area.y,
+                area.w,
+                area.h,
+                color,
+                rop,
+            )
+        }
+        Drawing::Outline(area) => {
+            outline::stroke_box(pixels, width, height, area.x, area.y, area.w, area.h, color)
+        }
+        Drawing::Text { at, count } => {
+            text::draw_units(pixels, width, height, at.x, at.y, units, count, color);
+            0 < count
+        }
+    }
+}

@@ -1,0 +1,73 @@
+-- Dirty marks.
+use mathlib.Core.Bool.{Bool, true, cond}
+use Prim.Native.Nat.{_+_, _%_}
+use lib.Dec.{eqb}
+use lib.ListN.{set}
+use Rattle.gdi.specs.declared.GdiState.{GdiState}
+use Rattle.gdi.specs.declared.Slot.{Slot}
+use Rattle.gdi.specs.declared.Found.{Found}
+use Rattle.gdi.specs.declared.Found.the-variants.{At, Nothing}
+use Rattle.gdi.specs.declared.GdiObject.{GdiObject}
+use Rattle.gdi.specs.declared.GdiObject.the-variants.{Dc, Bitmap as BitmapOf, Brush, Pen, Font}
+use Rattle.gdi.specs.Record.{withObjects}
+use Rattle.gdi.specs.Stock.{stockBitmap}
+use Rattle.gdi.specs.Lookup.{slotAt, findOf}
+use Rattle.place.specs.declared.SurfaceId.{SurfaceId}
+use Rattle.place.specs.declared.SurfaceId.the-variants.{Panel, Bitmap}
+
+-- a bitmap with its mark; any other object as it is
+abbrev pub objectDirtied : GdiObject → GdiObject
+objectDirtied (Dc d) = Dc d
+objectDirtied (BitmapOf m) = BitmapOf (record { width = m .width; height = m .height; «host_dirty» = true })
+objectDirtied (Brush x) = Brush x
+objectDirtied (Pen x) = Pen x
+objectDirtied (Font x) = Font x
+
+abbrev pub slotDirtied : Slot → Slot
+slotDirtied s = record { handle = s .handle; object = objectDirtied (s .object) }
+
+-- one frame more: the counter goes round to 0 after its last value
+abbrev pub framed : GdiState → GdiState
+framed b =
+    record {
+      «panel_len» = b .«panel_len»;
+      «store_len» = b .«store_len»;
+      width = b .width;
+      height = b .height;
+      «frame_counter» = (b .«frame_counter» + 1) % 18446744073709551616;
+      «next_handle» = b .«next_handle»;
+      screen = b .screen;
+      «stock_dirty» = b .«stock_dirty»;
+      count = b .count;
+      objects = b .objects;
+    }
+
+-- the stock bitmap with its mark
+abbrev pub stockDirtied : GdiState → GdiState
+stockDirtied b =
+    record {
+      «panel_len» = b .«panel_len»;
+      «store_len» = b .«store_len»;
+      width = b .width;
+      height = b .height;
+      «frame_counter» = b .«frame_counter»;
+      «next_handle» = b .«next_handle»;
+      screen = b .screen;
+      «stock_dirty» = true;
+      count = b .count;
+      objects = b .objects;
+    }
+
+-- a created object with its mark
+abbrev pub createdDirtied : GdiState → Found → GdiState
+createdDirtied b (At i) = withObjects b (b .«next_handle») (b .count) (set (b .objects) i (slotDirtied (slotAt b i)))
+createdDirtied b Nothing = b
+
+-- a dirty mark adds 1 to the panel's frame counter (64 bits), or sets a bitmap's host_dirty
+unfoldable pub dirtied : GdiState → SurfaceId → GdiState
+dirtied b Panel = framed b
+dirtied b (Bitmap h) = cond (eqb h stockBitmap) (stockDirtied b) (createdDirtied b (findOf b h))
+
+-- the same if a mark is due
+unfoldable pub dirtiedIf : Bool → SurfaceId → GdiState → GdiState
+dirtiedIf due s b = cond due (dirtied b s) b

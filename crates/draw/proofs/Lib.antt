@@ -1,0 +1,2 @@
+pub mod Targeted
+pub mod Drawings

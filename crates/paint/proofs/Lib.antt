@@ -1,0 +1,4 @@
+pub mod Alike
+pub mod Draws
+pub mod Blanks
+pub mod Closed

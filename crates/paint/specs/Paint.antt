@@ -1,0 +1,62 @@
+-- What a call does to the memories. A paint says which pixels get which colour, or which bytes go; it holds no byte.
+use mathlib.Core.Bool.{Bool}
+use mathlib.Core.List.{List, [], _∷_}
+use Prim.Native.Nat.{ℕ, _/_, _%_}
+use Rattle.words.specs.Words.{painted, word}
+use Rattle.rop3.specs.Rop3.{applied}
+use Rattle.surface.specs.Region.{wordsOf}
+use Rattle.gdi.specs.declared.GdiState.{GdiState}
+use Rattle.gdi.specs.Record.{bytesOf}
+use Rattle.gdi.specs.Lookup.{objectAt}
+use Rattle.sound.specs.Sound.{startOf, used}
+use Rattle.memory.specs.Gap.{closedUp, blanked}
+use Rattle.place.specs.declared.SurfaceId.{SurfaceId}
+use Rattle.place.specs.declared.SurfaceId.the-variants.{Panel, Bitmap}
+use Rattle.place.specs.Place.{whereIs}
+use Rattle.paint.specs.Memories.{Memories, memories, widthOf, over, colourAt}
+
+-- the source operand of a drawing: 0, or for the pixel at x, y the pixel of a surface at fx x, fy y
+pub data Source : Type 0 where
+  black : Source
+  taken : SurfaceId → (fx fy : ℕ → ℕ) → Source
+
+-- A drawing: each pixel of `target` in `region` gets what the code's table gives of the pattern, the source operand and
+-- itself. A drawing without a code has the table of PATCOPY, 0xF0.
+pub record Draw : Type 0 where
+  pub target : SurfaceId
+  pub region : (x y : ℕ) → Bool
+  pub table : ℕ
+  pub pattern : ℕ
+  pub source : Source
+
+pub data Paint : Type 0 where
+  draw : Draw → Paint
+  -- a new bitmap, or the panel at its new size: the n bytes of its memory from p on become 0
+  blank : SurfaceId → (p n : ℕ) → Paint
+  -- the bitmap h goes: the n bytes of the store from p on; those behind them, up to used, move down, and the freed tail
+  -- becomes 0
+  close : (h p n used : ℕ) → Paint
+
+abbrev pub operand : GdiState → Memories → Source → (x y : ℕ) → ℕ
+operand b ms black x y = 0
+operand b ms (taken s fx fy) x y = colourAt ms (whereIs b s) (fx x) (fy y)
+
+-- a drawing on the bytes of a surface that is w wide, s being the source operand
+abbrev pub drawn : Draw → (s : ℕ → ℕ → ℕ) → (w : ℕ) → List ℕ → List ℕ
+drawn d s w m = painted (wordsOf w (d .region)) (λ i. applied (d .table) (d .pattern) (s (i % w) (i / w)) (word m i)) m
+
+-- the memories after a paint
+unfoldable pub paintedBy : GdiState → Paint → Memories → Memories
+paintedBy b (draw d) ms = over (whereIs b (d .target)) (drawn d (operand b ms (d .source)) (widthOf (whereIs b (d .target)))) ms
+paintedBy b (blank Panel p n) ms = memories (blanked (ms .panel) p n) (ms .store)
+paintedBy b (blank (Bitmap h) p n) ms = memories (ms .panel) (blanked (ms .store) p n)
+paintedBy b (close h p n used) ms = memories (ms .panel) (closedUp 0 (ms .store) p n used)
+
+-- after several, one after the other
+unfoldable pub after : GdiState → List Paint → Memories → Memories
+after b [] ms = ms
+after b (p ∷ ps) ms = after b ps (paintedBy b p ms)
+
+-- object i, of the handle h, goes: its pixels out of the store
+abbrev pub closing : GdiState → (h i : ℕ) → List Paint
+closing b h i = close h (startOf b i) (bytesOf (objectAt b i)) (used b) ∷ []

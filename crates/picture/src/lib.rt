@@ -1,0 +1,61 @@
+// A surface as a P6 picture on standard output, for programs.
+use color::Rgb565;
+use libc::STDOUT_FILENO;
+ghost use mathlib.Core.Path.{_≡_};
+ghost use Prim.Native.Nat.{_+_, _*_, _≤_, _<_};
+ghost use lib.ListN.{length, set};
+ghost use Rattle.color.specs.Color.{wideRed, wideGreen, wideBlue};
+
+// The widest surface that is written.
+pub const WIDEST: u32 = 4096;
+
+// Writes the surface of these sides that begins the pixels.
+pub fn write(pixels: &[u8], width: u32, height: u32)
+    requires { ⌜ width ≤ 4096 ⌝ }
+    requires { ⌜ 2 * (width * height) ≤ length (now pixels) ⌝ }
+{
+    write_header(width, height);
+    write_rows(pixels, width as usize, height as usize);
+}
+
+// The format, the sides and the largest value.
+fn write_header(width: u32, height: u32) {
+    io::write_all(STDOUT_FILENO, b"P6\n");
+    io::print_decimal(STDOUT_FILENO, width as u64);
+    io::write_all(STDOUT_FILENO, b" ");
+    io::print_decimal(STDOUT_FILENO, height as u64);
+    io::write_all(STDOUT_FILENO, b"\n255\n");
+}
+
+// Row after row of the pixels.
+fn write_rows(pixels: &[u8], w: usize, h: usize)
+    requires { ⌜ w ≤ 4096 ⌝ }
+    requires { ⌜ 2 * (w * h) ≤ length (now pixels) ⌝ }
+{
+    for row in 0..h {
+        write_row(pixels, row * w, w);
+    }
+}
+
+// R, G and B of the w words from `first` on.
+fn write_row(pixels: &[u8], first: usize, w: usize)
+    requires { ⌜ (w ≤ 4096) × (2 * (first + w) ≤ length (now pixels)) ⌝ }
+{
+    let mut bytes = [0u8; 12_288];
+    for k in 0..w {
+        put_rgb(&mut bytes, 3 * k, words::word_at(pixels, first + k));
+    }
+    let end = 3 * w;
+    io::write_all(STDOUT_FILENO, &bytes[0..end]);
+}
+
+// Puts R, G and B of a word, widened, from `at` on.
+pub fn put_rgb(out: &mut [u8], at: usize, v: u16)
+    requires { ⌜ at + 2 < length (now out) ⌝ }
+    ensures { λ _. ⌜ now (out .exit) ≡ set (set (set (now (out .entry)) at (wideRed v)) (at + 1) (wideGreen v)) (at + 2) (wideBlue v) ⌝ }
+{
+    let w = color::rgb565_to_colorref(Rgb565(v));
+    out[at] = color::red(w);
+    out[at + 1] = color::green(w);
+    out[at + 2] = color::blue(w);
+}

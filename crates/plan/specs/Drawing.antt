@@ -1,0 +1,137 @@
+-- Drawing by a DC's handle: pattern fill, rectangle, text and blit.
+use mathlib.Core.Bool.{Bool, false, cond}
+use mathlib.Core.List.{List, [], _∷_}
+use Prim.Native.Nat.{ℕ, _*_}
+use lib.Dec.{leb, ltb}
+use Rattle.laws.specs.Integer.{positive}
+use Rattle.rop3.specs.Rop3.{tableOf, usesSrc}
+use Rattle.clip.specs.Blit.{sourceAt, drawnAt}
+use Rattle.color.specs.Color.{packed}
+use Rattle.color.specs.declared.Colorref.{Colorref}
+use Rattle.surface.specs.Region.{box}
+use Rattle.fill.specs.Fill.{fillMarks}
+use Rattle.outline.specs.Outline.{rim, outlineMarks}
+use Rattle.blit.specs.Blit.{blitOf, marks}
+use Rattle.text.specs.Ink.{unitCount, textInk}
+use Rattle.gdi.specs.declared.GdiState.{GdiState}
+use Rattle.gdi.specs.declared.Dc.{Dc}
+use Rattle.place.specs.declared.Place.{Place}
+use Rattle.place.specs.declared.Place.the-variants.{Nowhere, At}
+use Rattle.place.specs.declared.SurfaceId.{SurfaceId}
+use Rattle.place.specs.declared.Target.{Target}
+use Rattle.place.specs.declared.Target.the-variants.{NoDc, NoSurface, On}
+use Rattle.place.specs.Place.{whereIs, targetOf}
+use Rattle.dirty.specs.Dirty.{dirtiedIf}
+use Rattle.plan.specs.declared.Area.{Area}
+use Rattle.plan.specs.declared.Point.{Point}
+use Rattle.plan.specs.declared.Answer.{Answer}
+use Rattle.plan.specs.declared.Answer.the-variants.{Drawn, Advance}
+use Rattle.paint.specs.Memories.{widthOf, heightOf}
+use Rattle.paint.specs.Paint.{black, taken, Draw, Paint, draw}
+use Rattle.plan.specs.Plan.{Plan, refuse}
+
+-- an accepted drawing: the record with its marks, the answer, and the drawings in their order
+abbrev pub drew : GdiState → Answer → List Paint → Plan
+drew b a ps = record { outcome = record { state = b; answer = a }; paint = ps }
+
+-- 1 no such DC, then 2 the DC has no surface
+abbrev pub onTarget : GdiState → Target → (SurfaceId → Dc → Plan) → Plan
+onTarget b NoDc f = refuse 1 b
+onTarget b NoSurface f = refuse 2 b
+onTarget b (On s d) f = f s d
+
+-- 3 and 4, the same for the source
+abbrev pub onSource : GdiState → Target → (SurfaceId → Plan) → Plan
+onSource b NoDc f = refuse 3 b
+onSource b NoSurface f = refuse 4 b
+onSource b (On s d) f = f s
+
+-- the RGB565 word of a DC's colour
+abbrev pub packedOf : Colorref → ℕ
+packedOf c = packed (c .0)
+
+-- a drawing of pattern and destination under a table; the source operand is 0
+abbrev pub patterned : SurfaceId → (region : (x y : ℕ) → Bool) → (table pattern : ℕ) → Draw
+patterned s region t c = record { target = s; region = region; table = t; pattern = c; source = black }
+
+-- a drawing in one colour, without a code
+abbrev pub solid : SurfaceId → (region : (x y : ℕ) → Bool) → (color : ℕ) → Draw
+solid s region c = patterned s region 0xF0 c
+
+-- the pixels of an area, and its outline
+abbrev pub boxOf : Area → (x y : ℕ) → Bool
+boxOf a = box (a .x) (a .y) (a .w) (a .h)
+
+abbrev pub rimOf : Area → (x y : ℕ) → Bool
+rimOf a = rim (a .x) (a .y) (a .w) (a .h)
+
+-- whether a drawing makes a mark, by the sides of the surface at this place
+abbrev pub marksAt : Place → ((width height : ℕ) → Bool) → Bool
+marksAt Nowhere f = false
+marksAt (At m p w h) f = f w h
+
+-- the marks of a fill, an outline and a text
+abbrev pub filledAt : Place → Area → Bool
+filledAt at a = marksAt at (λ width height. fillMarks width height (a .x) (a .y) (a .w) (a .h))
+
+abbrev pub outlinedAt : Place → Area → Bool
+outlinedAt at a = marksAt at (λ width height. outlineMarks (a .w) (a .h))
+
+abbrev pub writtenAt : Place → (n : ℕ) → Bool
+writtenAt at n = marksAt at (λ width height. ltb 0 n)
+
+-- pattern fill: the pattern is the packed brush colour
+abbrev pub patternFillOn : GdiState → Area → (table : ℕ) → SurfaceId → Dc → Plan
+patternFillOn b a t s d =
+    drew (dirtiedIf (filledAt (whereIs b s) a) s b) Drawn (draw (patterned s (boxOf a) t (packedOf (d .«brush_color»))) ∷ [])
+
+unfoldable pub patternFill : GdiState → (dc : ℕ) → Area → (rop : ℕ) → Plan
+patternFill b dc a rop = onTarget b (targetOf b dc) (patternFillOn b a (tableOf rop))
+
+-- rectangle: fill with brush, then outline with pen, each with its own mark
+abbrev pub rectangleOn : GdiState → Area → SurfaceId → Dc → Plan
+rectangleOn b a s d =
+    drew (dirtiedIf (outlinedAt (whereIs b s) a) s (dirtiedIf (filledAt (whereIs b s) a) s b)) Drawn
+    (draw (solid s (boxOf a) (packedOf (d .«brush_color»))) ∷ draw (solid s (rimOf a) (packedOf (d .«pen_color»))) ∷ [])
+
+unfoldable pub rectangle : GdiState → (dc : ℕ) → Area → Plan
+rectangle b dc a = onTarget b (targetOf b dc) (rectangleOn b a)
+
+-- text: text colour, ink only; one mark if there was a unit; answers 6 times the units before unit 0 or the end
+abbrev pub textOn : GdiState → (units : List ℕ) → (n : ℕ) → Point → SurfaceId → Dc → Plan
+textOn b units n at s d =
+    drew (dirtiedIf (writtenAt (whereIs b s) n) s b) (Advance (6 * n)) (draw (solid s (textInk units n (at .x) (at .y)) (packedOf (d .«text_color»))) ∷ [])
+
+-- last 10, over 65,535 units
+unfoldable pub text : GdiState → (units : List ℕ) → (dc : ℕ) → Point → Plan
+text b units dc at =
+    onTarget b (targetOf b dc) (λ s d. cond (leb (unitCount units) 65535) (textOn b units (unitCount units) at s d) (refuse 10 b))
+
+-- a blit's mark, by both surfaces' places
+abbrev pub blittedAt : (at from : Place) → Area → Point → Bool
+blittedAt at from a p =
+    marksAt at (λ width height. marksAt from (λ src-w src-h. marks (blitOf width height (a .x) (a .y) (p .x) (p .y) (a .w) (a .h) src-w src-h)))
+
+-- the pixels of the clipped box, each from the pixel that is taken for it; the source lies at from
+abbrev pub blitted : (target source : SurfaceId) → (from : Place) → Area → Point → (table pattern : ℕ) → Draw
+blitted s q from a p t c =
+    record {
+      target = s;
+      region = drawnAt (a .x) (a .y) (p .x) (p .y) (a .w) (a .h) (widthOf from) (heightOf from);
+      table = t;
+      pattern = c;
+      source = taken q (λ x. positive (sourceAt (a .x) (p .x) x)) (λ y. positive (sourceAt (a .y) (p .y) y));
+    }
+
+-- blit: the pattern is the target DC's packed brush colour
+abbrev pub blitOn : GdiState → Area → Point → (table : ℕ) → SurfaceId → Dc → SurfaceId → Plan
+blitOn b a p t s d q =
+    drew (dirtiedIf (blittedAt (whereIs b s) (whereIs b q) a p) s b) Drawn
+    (draw (blitted s q (whereIs b q) a p t (packedOf (d .«brush_color»))) ∷ [])
+
+-- a code that ignores S is a pattern fill and the source handle is not looked at
+unfoldable pub blit : GdiState → (dc : ℕ) → Area → (src : ℕ) → Point → (rop : ℕ) → Plan
+blit b dc a src p rop =
+    cond (usesSrc (tableOf rop))
+    (onTarget b (targetOf b dc) (λ s d. onSource b (targetOf b src) (blitOn b a p (tableOf rop) s d)))
+    (patternFill b dc a rop)

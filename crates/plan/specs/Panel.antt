@@ -1,0 +1,45 @@
+-- Panel fill and resize.
+use mathlib.Core.Bool.{true, cond, _&&_, _||_}
+use mathlib.Core.List.{[], _∷_}
+use Prim.Native.Nat.{ℕ}
+use lib.Dec.{eqb, ltb}
+use Rattle.gdi.specs.declared.GdiState.{GdiState}
+use Rattle.gdi.specs.Record.{size}
+use Rattle.place.specs.declared.SurfaceId.the-variants.{Panel}
+use Rattle.dirty.specs.Dirty.{dirtied}
+use Rattle.plan.specs.declared.Answer.the-variants.{Drawn}
+use Rattle.paint.specs.Paint.{draw, blank}
+use Rattle.plan.specs.Plan.{Plan, told, refuse}
+use Rattle.plan.specs.Drawing.{drew, solid}
+
+-- the whole panel in one colour, and one mark
+abbrev pub panelFill : GdiState → (color : ℕ) → Plan
+panelFill b c = drew (dirtied b Panel) Drawn (draw (solid Panel (λ x y. true) c) ∷ [])
+
+-- the record with other panel sides
+abbrev pub withSides : GdiState → (width height : ℕ) → GdiState
+withSides b w h =
+    record {
+      «panel_len» = b .«panel_len»;
+      «store_len» = b .«store_len»;
+      width = w;
+      height = h;
+      «frame_counter» = b .«frame_counter»;
+      «next_handle» = b .«next_handle»;
+      screen = b .screen;
+      «stock_dirty» = b .«stock_dirty»;
+      count = b .count;
+      objects = b .objects;
+    }
+
+-- the panel at its new size turns black and marks once; bytes past it are kept
+abbrev pub resized : GdiState → (width height : ℕ) → Plan
+resized b w h = drew (dirtied (withSides b w h) Panel) Drawn (blank Panel 0 (size w h) ∷ [])
+
+-- a side of 0 or the present size does nothing; else 6 a side above 4,096, then 7 panel memory too short
+unfoldable pub resize : GdiState → (width height : ℕ) → Plan
+resize b w h =
+    cond ((eqb w 0 || eqb h 0) || (eqb w (b .width) && eqb h (b .height))) (told b Drawn) (
+    cond (ltb 4096 w || ltb 4096 h) (refuse 6 b) (
+    cond (ltb (b .«panel_len») (size w h)) (refuse 7 b)
+    (resized b w h)))

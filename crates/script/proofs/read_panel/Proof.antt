@@ -1,0 +1,78 @@
+-- `script::read_panel` meets its contract: each byte has its call, or the call is bad. Assumes nothing.
+use mathlib.Core.Path.{_≡_}
+use Prim.Native.Nat.{_+_}
+use native.Mathlib.Omega.{arith}
+use lib.ListN.{length}
+use denote.Ref.{now}
+use borrow.Author.Tests.{le-leb, lt-leb}
+use borrow.Author.Needs.{needs}
+use Rattle.bigendian.specs.BigEndian.{be32}
+use Rattle.script.specs.Script.{callOf}
+use Rattle.script.proofs.Calls.{first-cut, second-cut}
+use Rattle.script.proofs.read_panel.Statement.{statement}
+use Rattle.script.proofs.read_panel.Tie as tie
+
+sub-left : tie.Need-sub-left
+sub-left c = search needs
+
+returns : tie.Need-returns
+returns c = first-cut _ _ _ (λ e. omega arith) (omega arith)
+
+read-u32-requires : tie.Need-read-u32-requires
+read-u32-requires c κs = search needs
+
+returns-2 : tie.Need-returns-2
+unfolding callOf
+returns-2 c =
+    let a = c .before .before .before .before .before .args in
+    rw (c .before .if2 .taken, lt-leb (be32 (now (a .s)) (a .p)) 65535 (omega arith))
+
+cast-t10 : tie.Need-cast-t10
+cast-t10 c = search needs
+
+add-t13 : tie.Need-add-t13
+add-t13 c = search needs
+
+returns-3 : tie.Need-returns-3
+unfolding callOf
+returns-3 c =
+    let a = c .before .before .before .before .before .args in
+    rw (c .before .if2 .taken, c .before .before .read-u32 .ensures)
+    (rw (le-leb (be32 (now (a .s)) (a .p)) 65535 (omega arith), le-leb (a .p + 4) (length (now (a .s))) (omega arith)))
+
+returns-4 : tie.Need-returns-4
+returns-4 c =
+    second-cut _ _ _ (λ e. omega arith) (λ e. omega arith) (λ e. omega arith) (λ e. omega arith) (λ e. omega arith) (c .before .if2 .left) (omega arith)
+
+add-read-u32 : tie.Need-add-read-u32
+add-read-u32 c = search needs
+
+read-u32-requires-2 : tie.Need-read-u32-requires-2
+read-u32-requires-2 c κs = search needs
+
+add-t7 : tie.Need-add-t7
+add-t7 c = search needs
+
+returns-5 : tie.Need-returns-5
+unfolding callOf
+returns-5 c =
+    let a = c .before .before .before .before .before .before .args in
+    let resize : a .k ≡ 17 = omega arith in
+    rw (resize, c .before .before .before .read-u32 .ensures, c .read-u322 .ensures, le-leb (a .p + 8) (length (now (a .s))) (omega arith))
+
+pub read-panel-spec : {M : Type 1} → statement M
+read-panel-spec =
+    tie.close
+    (tie.spec
+    sub-left
+    returns
+    read-u32-requires
+    returns-2
+    cast-t10
+    add-t13
+    returns-3
+    returns-4
+    add-read-u32
+    read-u32-requires-2
+    add-t7
+    returns-5)

@@ -1,0 +1,43 @@
+-- A blit as the code makes it, between two places.
+use mathlib.Core.List.{List}
+use mathlib.Core.Logic.{_⊎_}
+use mathlib.Core.Path.{_≡_}
+use Prim.Native.Nat.{ℕ, _+_, _*_, _/_, _%_, _≤_}
+use Rattle.laws.specs.Integer.{positive}
+use Rattle.words.specs.Words.{painted, word}
+use Rattle.rop3.specs.Rop3.{applied}
+use Rattle.clip.specs.Blit.{sourceAt, drawnAt}
+use Rattle.surface.specs.Region.{wordsOf}
+use Rattle.gdi.specs.Record.{size}
+use Rattle.place.specs.declared.Memory.the-variants.{Panel, Store}
+use Rattle.place.specs.declared.Place.{Place}
+use Rattle.place.specs.declared.Place.the-variants.{Nowhere, At}
+use Rattle.plan.specs.declared.Area.{Area}
+use Rattle.plan.specs.declared.Point.{Point}
+use Rattle.paint.specs.Memories.{Memories, widthOf, heightOf, pixelsAt, over}
+
+-- Two surfaces of one memory: each begins at a word, and they are one or have no byte in common.
+pub record Side (p w h q x y : ℕ) : Type 0 where
+  pub whole : 2 * (p / 2) ≡ p
+  pub whole-source : 2 * (q / 2) ≡ q
+  pub apart : ((p ≡ q) × ((w ≡ x) × (h ≡ y))) ⊎ ((p + size w h ≤ q) ⊎ (q + size x y ≤ p))
+
+-- two places, of which nothing is asked unless they lie in one memory
+abbrev pub Beside : Place → Place → Type 0
+Beside Nowhere v = Unit
+Beside (At Panel p w h) Nowhere = Unit
+Beside (At Panel p w h) (At Panel q x y) = Side p w h q x y
+Beside (At Panel p w h) (At Store q x y) = Unit
+Beside (At Store p w h) Nowhere = Unit
+Beside (At Store p w h) (At Panel q x y) = Unit
+Beside (At Store p w h) (At Store q x y) = Side p w h q x y
+
+-- the bytes m of a surface of that width after a blit from the bytes src of another, or from its own
+abbrev pub blitPart : Area → (from : Point) → (table pat : ℕ) → (src : List ℕ) → (src-w src-h width : ℕ) → (m : List ℕ) → List ℕ
+blitPart a p t c src src-w src-h width m =
+    painted (wordsOf width (drawnAt (a .x) (a .y) (p .x) (p .y) (a .w) (a .h) src-w src-h))
+    (λ i. applied t c (word src (positive (sourceAt (a .x) (p .x) (i % width)) + positive (sourceAt (a .y) (p .y) (i / width)) * src-w)) (word m i)) m
+
+-- the memories after a blit from the surface at src to the surface at
+abbrev pub transferred : (at src : Place) → Area → (from : Point) → (table pat : ℕ) → Memories → Memories
+transferred at src a p t c ms = over at (blitPart a p t c (pixelsAt ms src) (widthOf src) (heightOf src) (widthOf at)) ms

@@ -1,0 +1,177 @@
+// Blits between surfaces, wherever they lie in the two memories. The source pixels are those before the call.
+ghost use mathlib.Core.Path.{_≡_};
+ghost use lib.ListN.{length};
+ghost use Rattle.words.specs.Parts.{part, withPart};
+ghost use Rattle.rop3.specs.Rop3.{tableOf};
+ghost use Rattle.blit.specs.Blit.{blitOf, marks};
+ghost use Rattle.gdi.specs.Record.{size};
+ghost use Rattle.place.specs.Place.{Inside, Within};
+ghost use Rattle.paint.specs.Memories.{memories};
+ghost use Rattle.plan.specs.Drawing.{blittedAt};
+ghost use Rattle.transfer.specs.Transfer.{Side, Beside, blitPart, transferred};
+use color::Rgb565;
+use place::Memory;
+use place::Place;
+use plan::Area;
+use plan::Point;
+
+// A blit from the surface at src to the surface at. Whether a mark is due.
+pub fn blit_at(
+    panel: &mut [u8],
+    store: &mut [u8],
+    at: Place,
+    src: Place,
+    area: Area,
+    from: Point,
+    rop: u32,
+    pat: Rgb565,
+) -> bool
+    requires { ⌜ Within (length (now panel)) (length (now store)) at × Within (length (now panel)) (length (now store)) src ⌝ }
+    requires { ⌜ Beside at src ⌝ }
+    ensures { λ r. ⌜ r ≡ blittedAt at src area from ⌝ }
+    ensures bytes { λ _. ⌜ memories (now (panel .exit)) (now (store .exit)) ≡ transferred at src area from (tableOf rop) (pat .0) (memories (now (panel .entry)) (now (store .entry))) ⌝ }
+{
+    match at {
+        Place::Nowhere => false,
+        Place::At(m, p, width, height) => match src {
+            Place::Nowhere => false,
+            Place::At(n, q, src_w, src_h) => match m {
+                Memory::Panel => match n {
+                    Memory::Panel => blit_inside(
+                        panel,
+                        p,
+                        width,
+                        height,
+                        q,
+                        src_w,
+                        src_h,
+                        area,
+                        from,
+                        rop,
+                        pat,
+                    ),
+                    Memory::Store => blit_between(
+                        panel,
+                        p,
+                        width,
+                        height,
+                        store,
+                        q,
+                        src_w,
+                        src_h,
+                        area,
+                        from,
+                        rop,
+                        pat,
+                    ),
+                },
+                Memory::Store => match n {
+                    Memory::Panel => blit_between(
+                        store,
+                        p,
+                        width,
+                        height,
+                        panel,
+                        q,
+                        src_w,
+                        src_h,
+                        area,
+                        from,
+                        rop,
+                        pat,
+                    ),
+                    Memory::Store => blit_inside(
+                        store,
+                        p,
+                        width,
+                        height,
+                        q,
+                        src_w,
+                        src_h,
+                        area,
+                        from,
+                        rop,
+                        pat,
+                    ),
+                },
+            },
+        },
+    }
+}
+
+// From the surface at byte q of another memory to the one at byte p.
+pub fn blit_between(
+    mem: &mut [u8],
+    p: usize,
+    width: u32,
+    height: u32,
+    other: &[u8],
+    q: usize,
+    src_w: u32,
+    src_h: u32,
+    area: Area,
+    from: Point,
+    rop: u32,
+    pat: Rgb565,
+) -> bool
+    requires { ⌜ Inside (length (now mem)) p width height × Inside (length (now other)) q «src_w» «src_h» ⌝ }
+    ensures { λ r. ⌜ r ≡ marks (blitOf width height (area .x) (area .y) (from .x) (from .y) (area .w) (area .h) «src_w» «src_h») ⌝ }
+    ensures bytes { λ _. ⌜ now (mem .exit) ≡ withPart (now (mem .entry)) p (size width height) (blitPart area from (tableOf rop) (pat .0) (part (now (other .entry)) q (size «src_w» «src_h»)) «src_w» «src_h» width (part (now (mem .entry)) p (size width height))) ⌝ }
+{
+    let n = 2 * ((width * height) as usize);
+    let k = 2 * ((src_w * src_h) as usize);
+    blit::blit_from(
+        &mut mem[p..p + n],
+        width,
+        height,
+        area.x,
+        area.y,
+        from.x,
+        from.y,
+        area.w,
+        area.h,
+        &other[q..q + k],
+        src_w,
+        src_h,
+        rop,
+        pat,
+    )
+}
+
+// From the surface at byte q of a memory to the one at byte p of the same.
+pub fn blit_inside(
+    mem: &mut [u8],
+    p: usize,
+    width: u32,
+    height: u32,
+    q: usize,
+    src_w: u32,
+    src_h: u32,
+    area: Area,
+    from: Point,
+    rop: u32,
+    pat: Rgb565,
+) -> bool
+    requires { ⌜ Inside (length (now mem)) p width height × Inside (length (now mem)) q «src_w» «src_h» ⌝ }
+    requires { ⌜ Side p width height q «src_w» «src_h» ⌝ }
+    ensures { λ r. ⌜ r ≡ marks (blitOf width height (area .x) (area .y) (from .x) (from .y) (area .w) (area .h) «src_w» «src_h») ⌝ }
+    ensures bytes { λ _. ⌜ now (mem .exit) ≡ withPart (now (mem .entry)) p (size width height) (blitPart area from (tableOf rop) (pat .0) (part (now (mem .entry)) q (size «src_w» «src_h»)) «src_w» «src_h» width (part (now (mem .entry)) p (size width height))) ⌝ }
+{
+    blit::blit_within(
+        mem,
+        p / 2,
+        width,
+        height,
+        area.x,
+        area.y,
+        from.x,
+        from.y,
+        area.w,
+        area.h,
+        q / 2,
+        src_w,
+        src_h,
+        rop,
+        pat,
+    )
+}
