@@ -7,10 +7,10 @@ use lib.Dec.{ltb}
 use mir.Syntax.{w32}
 use mir.Val.{SFits}
 use Rattle.laws.proofs.Machine.{held32, stored32}
-use Rattle.words.specs.Words.{painted, word}
-use Rattle.words.proofs.Painted.{painted-same}
-use Rattle.rop3.specs.Rop3.{tableOf, applied}
-use Rattle.rop3.proofs.Codes.{applied-pattern}
+use Rattle.words.specs.Words.{painted}
+use Rattle.rop3.specs.Rop3.{tableOf}
+use Rattle.raster.specs.Raster.{ropped}
+use Rattle.raster.proofs.Plain.{pattern-ropped}
 use Rattle.surface.specs.Region.{wordsOf}
 use Rattle.fill.specs.Fill.{filledRop, fillMarks}
 use Rattle.outline.specs.Outline.{outlined, outlineMarks}
@@ -22,9 +22,8 @@ use Rattle.canvas.specs.declared.Drawing.the-variants.{Fill, Outline, Te
 use Rattle.canvas.specs.Canvas.{marksOf, drawnOf, Countable}
 
 -- one colour is PATCOPY's table on it
-solid : (P : ℕ → Bool) (c : ℕ) (m : List ℕ) → c < 65536 → painted P (λ _. c) m ≡ painted P (λ i. applied 0xF0 c 0 (word m i)) m
-solid P c m small =
-    painted-same P P (λ _. c) (λ i. applied 0xF0 c 0 (word m i)) m (λ i lt. refl) (λ i lt t. applied-pattern c 0 (word m i) small)
+solid : (P : ℕ → Bool) (c : ℕ) (m : List ℕ) → c < 65536 → painted P (λ _. c) m ≡ painted P (ropped 0xF0 c (λ _. 0) m) m
+solid P c m small = pattern-ropped 0xF0 P c (λ _. 0) m refl small
 
 -- the mark and the bytes are a drawing's
 abbrev pub Drawn : Drawing → (units : List ℕ) → (color width height : ℕ) → (m : List ℕ) → Bool → (m′ : List ℕ) → Type 0

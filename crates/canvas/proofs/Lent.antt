@@ -2,8 +2,7 @@
 use mathlib.Core.Bool.{Bool, false}
 use mathlib.Core.List.{List}
 use mathlib.Core.Path.{_≡_, _∙_}
-use Prim.Native.Nat.{ℕ, _+_, _-_, _*_, _≤_}
-use native.Mathlib.Nat.{mul-le-mul}
+use Prim.Native.Nat.{ℕ, _+_, _-_}
 use native.Mathlib.Omega.{arith}
 use lib.ListN.{length}
 use lib.Seq.{drop-drop}
@@ -19,10 +18,6 @@ use Rattle.place.specs.declared.Place.the-variants.{Nowhere, At}
 use Rattle.place.specs.Place.{Inside}
 use Rattle.paint.specs.Memories.{Memories, memories, widthOf, over}
 use Rattle.plan.specs.Drawing.{marksAt}
-
-module _ {l p w h : ℕ} (i : Inside l p w h) where
-  pub area : w * h ≤ 16777216
-  area = mul-le-mul (i .wide) (i .high)
 
 -- the part from p to its end has the surface's size
 module _ (l : List ℕ) (p w h : ℕ) (i : Inside (length l) p w h) where

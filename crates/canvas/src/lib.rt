@@ -50,7 +50,7 @@ pub fn draw_at(
 }
 
 // Draws on the bytes of a surface that is in order. Whether a mark is due.
-pub fn draw_on(
+fn draw_on(
     pixels: &mut [u8],
     width: u32,
     height: u32,

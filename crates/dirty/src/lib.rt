@@ -52,7 +52,7 @@ pub fn mark_dirty_if(state: GdiState, id: SurfaceId, due: bool) -> GdiState
 }
 
 // A bitmap with its mark; any other object as it is.
-pub fn mark_object(object: GdiObject) -> GdiObject
+fn mark_object(object: GdiObject) -> GdiObject
     ensures { λ r. ⌜ r ≡ objectDirtied object ⌝ }
 {
     match object {

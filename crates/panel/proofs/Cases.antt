@@ -16,11 +16,11 @@ use Rattle.words.proofs.Painted.{painted-same}
 use Rattle.words.proofs.Parts.{part-painted}
 use Rattle.rop3.specs.Rop3.{applied}
 use Rattle.rop3.proofs.Codes.{applied-pattern}
-use Rattle.surface.proofs.Accepted.{side-range}
 use Rattle.gdi.specs.declared.GdiState.{GdiState}
 use Rattle.gdi.specs.Record.{size}
 use Rattle.sound.specs.Sound.{isSound}
 use Rattle.sound.proofs.Sound.{parts}
+use Rattle.sound.proofs.Bytes.{area as sides-area}
 use Rattle.memory.specs.Gap.{blanked}
 use Rattle.place.specs.declared.SurfaceId.the-variants.{Panel}
 use Rattle.dirty.specs.Dirty.{dirtied}
@@ -39,7 +39,7 @@ area wide high = mul-le-mul wide high
 -- the panel of a sound record
 module _ (b : GdiState) (sound : isSound b ≡ true) where
   pub panel-area : b .width * b .height ≤ 16777216
-  panel-area = let s = parts b sound in area (side-range (b .width) (s .width) .1) (side-range (b .height) (s .height) .1)
+  panel-area = let s = parts b sound in sides-area (b .width) (b .height) (s .width) (s .height)
 
   pub panel-fits : {n : ℕ} → n ≡ b .«panel_len» → 2 * (0 + b .width * b .height) ≤ n
   panel-fits e = omega (arith, e, parts b sound .panel)

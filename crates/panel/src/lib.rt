@@ -70,7 +70,7 @@ pub fn resize(state: GdiState, panel: &mut [u8], width: u32, height: u32) -> Out
 }
 
 // Whether a resize from these sides does nothing.
-pub fn no_effect(width: u32, height: u32, present_w: u32, present_h: u32) -> bool
+fn no_effect(width: u32, height: u32, present_w: u32, present_h: u32) -> bool
     ensures { λ r. ⌜ r ≡ ((eqb width 0 || eqb height 0) || (eqb width «present_w» && eqb height «present_h»)) ⌝ }
 {
     if width == 0 {

@@ -2,7 +2,6 @@
 use mathlib.Core.List.{List, []}
 use mathlib.Core.Path.{_≡_, sym, _∙_, ap, subst}
 use Prim.Native.Nat.{ℕ, _+_, _-_, _*_, _≤_}
-use native.Mathlib.Nat.{mul-le-mul}
 use native.Mathlib.Omega.{arith}
 use lib.ListN.{length}
 use borrow.Author.Tests.{ne-eqb}
@@ -20,6 +19,7 @@ use Rattle.place.specs.declared.SurfaceId.{SurfaceId}
 use Rattle.place.specs.declared.Target.{Target}
 use Rattle.place.specs.declared.Target.the-variants.{NoDc, NoSurface, On}
 use Rattle.place.specs.Place.{targetOf, lengthOf, Inside, Within, Placed}
+use Rattle.place.proofs.Places.{few-pixels}
 use Rattle.paint.specs.Memories.{memories, memoryOf, pixelsAt}
 use Rattle.pixels.specs.Pixels.{placeOn, placeOf, pixelsOf, Found}
 
@@ -51,7 +51,7 @@ module _ {b : GdiState} {n k dc : ℕ} {at : Place} (f : Found b n k dc at) {m :
   inside = subst (Within n k) e (f .within)
 
   pub area : w * h ≤ 16777216
-  area = mul-le-mul (inside .wide) (inside .high)
+  area = few-pixels inside
 
   pub panel-fits : m ≡ Panel → p + size w h ≤ n
   panel-fits g = subst (λ (v : Memory). p + size w h ≤ lengthOf n k v) g (inside .fits)

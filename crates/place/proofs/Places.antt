@@ -1,7 +1,8 @@
 -- The steps of locating a bitmap, and the cases of a surface's place, each inside its memory. Assumes nothing.
 use mathlib.Core.Bool.{true}
 use mathlib.Core.Path.{_≡_, sym, _∙_, subst, subst⁻¹}
-use Prim.Native.Nat.{ℕ, suc, _+_, _-_, _≤_, _<_}
+use Prim.Native.Nat.{ℕ, suc, _+_, _-_, _*_, _≤_, _<_}
+use native.Mathlib.Nat.{mul-le-mul}
 use native.Mathlib.Numerals.{add-one}
 use native.Mathlib.Omega.{arith}
 use borrow.Author.Tests.{eq-eqb, ne-eqb}
@@ -91,6 +92,10 @@ module _ (b : GdiState) (sound : isSound b ≡ true) {u : SurfaceId} where
 
   pub placed-created : {h : ℕ} {r : Place} → u ≡ Bitmap h → (h ≡ stockBitmap → ⊥) → Located b h r → Placed b u r
   placed-created e ne l = record { same = rw (e, ne-eqb _ _ ne) (l .same); within = l .within }
+
+-- a surface's pixels can be counted
+pub few-pixels : {len p w h : ℕ} → Inside len p w h → w * h ≤ 16777216
+few-pixels i = mul-le-mul (i .wide) (i .high)
 
 -- what is known of a place that was taken apart
 pub taken-apart : (n k : ℕ) {at : Place} {m : Memory} (v : Memory) {p w h : ℕ} → Within n k at → at ≡ At m p w h → m ≡ v → Inside (lengthOf n k v) p w h

@@ -4,7 +4,7 @@ use mathlib.Core.List.{List, []}
 use mathlib.Core.Logic.{_⊎_, inl, inr}
 use mathlib.Core.Path.{_≡_, refl, sym, _∙_, ap}
 use Prim.Native.Nat.{ℕ, _+_, _-_, _*_, _/_, _%_, _≤_, _<_}
-use native.Mathlib.Nat.{mul-le-mul, mul-le-mul-right, mul-comm}
+use native.Mathlib.Nat.{mul-le-mul-right, mul-comm}
 use native.Mathlib.Omega.{arith}
 use lib.IntN.{ℤ, pos, negsuc}
 use lib.ListN.{length, drop, take-append-drop}
@@ -33,10 +33,6 @@ use Rattle.plan.specs.declared.Area.{Area}
 use Rattle.plan.specs.declared.Point.{Point}
 use Rattle.transfer.specs.Transfer.{Side, blitPart}
 use Rattle.transfer.proofs.Numbers.{numbers}
-
--- a surface's pixels can be counted
-pub few : {len p w h : ℕ} → Inside len p w h → w * h ≤ 16777216
-few i = mul-le-mul (i .wide) (i .high)
 
 -- a word of a part
 word-part : (m : List ℕ) (a n j : ℕ) → j < n → word (part m (2 * a) (2 * n)) j ≡ word m (a + j)

@@ -100,7 +100,7 @@ pub fn blit_at(
 }
 
 // From the surface at byte q of another memory to the one at byte p.
-pub fn blit_between(
+fn blit_between(
     mem: &mut [u8],
     p: usize,
     width: u32,
@@ -139,7 +139,7 @@ pub fn blit_between(
 }
 
 // From the surface at byte q of a memory to the one at byte p of the same.
-pub fn blit_inside(
+fn blit_inside(
     mem: &mut [u8],
     p: usize,
     width: u32,

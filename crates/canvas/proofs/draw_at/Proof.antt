@@ -6,8 +6,8 @@ use borrow.Author.Needs.{needs}
 use Rattle.place.specs.declared.Memory.the-variants.{Panel, Store}
 use Rattle.place.specs.Place.{lengthOf, Inside}
 use Rattle.canvas.specs.Canvas.{marksOf, drawnOf}
-use Rattle.place.proofs.Places.{taken-apart}
-use Rattle.canvas.proofs.Lent.{area, lent-in-order, no-mark, no-byte, mark-at, back-in-panel, back-in-store}
+use Rattle.place.proofs.Places.{few-pixels, taken-apart}
+use Rattle.canvas.proofs.Lent.{lent-in-order, no-mark, no-byte, mark-at, back-in-panel, back-in-store}
 use Rattle.canvas.proofs.draw_at.Statement.{statement}
 use Rattle.canvas.proofs.draw_at.Tie as tie
 
@@ -25,13 +25,13 @@ here : (c : tie.After-known-told) →
 here c = taken-apart _ _ _ (c .before .before .before .before .before .before .pre .0) (c .before .at .given .1) refl
 
 mul-n : tie.Need-mul-n
-mul-n c = omega (arith, area (here c))
+mul-n c = omega (arith, few-pixels (here c))
 
 cast-n : tie.Need-cast-n
-cast-n c = omega (arith, area (here c))
+cast-n c = omega (arith, few-pixels (here c))
 
 mul-n-2 : tie.Need-mul-n-2
-mul-n-2 c = omega (arith, area (here c))
+mul-n-2 c = omega (arith, few-pixels (here c))
 
 enum-told-2 : tie.Need-enum-told-2
 enum-told-2 c = search needs

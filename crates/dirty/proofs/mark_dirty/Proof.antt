@@ -29,7 +29,8 @@ enum-known-i c = search needs
 
 below : (c : tie.After-known-told2) → c .before .i .given .0 .0 < 256
 below c =
-    found-below (c .before .before .before .before .before .before .before .before .args .t1) (c .before .before .before .before .before .before .id .given .0 .0) (c .before .before .before .before .before .before .before .before .pre) (sym (c .before .before .before .find .ensures) ∙ c .before .i .given .1)
+    let s = c .before .before .before .before .before .before .before .before in
+    found-below (s .args .t1) (c .before .before .before .before .before .before .id .given .0 .0) (s .pre) (sym (c .before .before .before .find .ensures) ∙ c .before .i .given .1)
 
 mul-s : tie.Need-mul-s
 mul-s c = omega (arith, below c)
@@ -54,7 +55,9 @@ returns-2 c = mark-panel _ (c .before .enum-told .given .1) (c .wrapping-add-u64
 
 returns-3 : tie.Need-returns-3
 returns-3 c =
-    mark-found _ (c .before .before .before .before .before .before .before .before .id .given .1) (c .before .before .before .before .before .before .if1 .left) (sym (c .before .before .before .before .before .find .ensures) ∙ c .before .before .before .i .given .1) (c .mark-object .ensures)
+    let f = c .before .before .before .before .before in
+    let s = f .before in
+    mark-found _ (s .before .before .id .given .1) (s .if1 .left) (sym (f .find .ensures) ∙ c .before .before .before .i .given .1) (c .mark-object .ensures)
 
 returns-4 : tie.Need-returns-4
 returns-4 c = mark-none _ (c .before .before .before .before .before .id .given .1) (c .before .before .before .if1 .left) (sym (c .before .before .find .ensures) ∙ c .enum-told2 .given .1)

@@ -4,7 +4,8 @@ use native.Mathlib.Omega.{arith}
 use borrow.Author.Needs.{needs}
 use Rattle.rop3.specs.Rop3.{tableOf}
 use Rattle.transfer.proofs.Numbers.{numbers, held, read}
-use Rattle.transfer.proofs.Drawn.{few, drawn-between}
+use Rattle.place.proofs.Places.{few-pixels}
+use Rattle.transfer.proofs.Drawn.{drawn-between}
 use Rattle.transfer.proofs.blit_between.Statement.{statement}
 use Rattle.transfer.proofs.blit_between.Tie as tie
 
@@ -21,7 +22,7 @@ module _ (k : tie.After-struct-told6) where
       read _ _ (s .args .area) (s .args .from) _ _ (a .0 .1) (a .1 .0 .1) (a .1 .1 .0 .1) (a .1 .1 .1 .0 .1) (f .0 .1) (f .1 .0 .1)
 
 mul-n : tie.Need-mul-n
-mul-n c = omega (arith, few (c .before .before .pre .0))
+mul-n c = omega (arith, few-pixels (c .before .before .pre .0))
 
 cast-n : tie.Need-cast-n
 cast-n c = search needs
@@ -30,7 +31,7 @@ mul-n-2 : tie.Need-mul-n-2
 mul-n-2 c = search needs
 
 mul-k : tie.Need-mul-k
-mul-k c = omega (arith, few (c .before .before .pre .1))
+mul-k c = omega (arith, few-pixels (c .before .before .pre .1))
 
 cast-k : tie.Need-cast-k
 cast-k c = search needs
