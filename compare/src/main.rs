@@ -7,6 +7,7 @@ mod codes;
 mod counts;
 mod crc;
 mod overflow;
+mod ppm;
 mod primitives;
 mod program;
 mod random;
@@ -36,7 +37,8 @@ usage:
                                     write records, COUNT of them random, and their lines to files
   compare record-answers            print the lines for the records on standard input
   compare records-run PROGRAM COUNT SEED
-                                    compare COUNT random records with a program";
+                                    compare COUNT random records with a program
+  compare ppm PROGRAM COUNT SEED    compare COUNT random pictures with a program that writes them";
 
 fn main() -> ExitCode {
     let arguments: Vec<String> = env::args().skip(1).collect();
@@ -57,6 +59,7 @@ fn command(arguments: &[&str]) -> Result<bool, String> {
         ["call-script" | "call-answers" | "call-picture" | "script", ..]
         | ["sample-calls" | "calls" | "handles", ..] => calls_command(arguments),
         ["records" | "record-answers" | "records-run", ..] => records_command(arguments),
+        ["ppm", program, count, seed] => ppm::run(program, number(count)?, number(seed)?),
         _ => primitives_command(arguments),
     }
 }

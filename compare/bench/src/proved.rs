@@ -67,14 +67,27 @@ impl Surface {
 
     /// The whole of a source of the same sides.
     pub fn blit_whole(&mut self, src: &[u8], rop: u32, pat: u16) -> bool {
+        let sides = [self.width, self.height];
+        self.blit_at([0, 0], src, sides, rop, pat)
+    }
+
+    /// The whole of a source of these sides.
+    pub fn blit_at(
+        &mut self,
+        [dx, dy]: [i32; 2],
+        src: &[u8],
+        [src_w, src_h]: [u32; 2],
+        rop: u32,
+        pat: u16,
+    ) -> bool {
         let (pixels, len) = self.lent();
         let (width, height) = (self.width, self.height);
-        let (w, h) = (width as i32, height as i32);
+        let (w, h) = (src_w as i32, src_h as i32);
         let (from, from_len) = (src.as_ptr(), src.len());
         // SAFETY: as in `fill_rect`, and the other pointer and length are those of `src`.
         let drawn = unsafe {
             ravinefork_blit_from_bytes_rop(
-                pixels, len, width, height, 0, 0, 0, 0, w, h, from, from_len, width, height, rop,
+                pixels, len, width, height, dx, dy, 0, 0, w, h, from, from_len, src_w, src_h, rop,
                 pat,
             )
         };

@@ -1,4 +1,4 @@
--- The examples marked P: each is what the definitions compute.
+-- The examples marked P, and the program's: each is what the definitions compute.
 use mathlib.Core.Bool.{true, false}
 use mathlib.Core.List.{[], _∷_}
 use mathlib.Core.Path.{_≡_, refl}
@@ -27,6 +27,9 @@ use Rattle.handles.specs.Handles.{free, firstFree, newHandle, added}
 use Rattle.plan.specs.declared.Answer.the-variants.{Handle}
 use Rattle.plan.specs.Plan.{refuse}
 use Rattle.plan.specs.Create.{createOf, createBitmap}
+use Rattle.snapshot.specs.P6.{header, digits}
+use Rattle.snapshot.specs.Snapshot.{joined}
+use Rattle.pixmap.specs.Pixmap.{isPicture, pictureOf}
 
 -- COLORREF 0x00C0C0C0 packs to 0xC618, 0xFF000000 to 0
 pub light-gray : packed 0x00C0C0C0 ≡ 0xC618
@@ -144,3 +147,10 @@ bitmap-too-wide h = refl
 pub bitmap-too-high : createBitmap bench 1 4097 ≡ refuse 6 bench
 unfolding createBitmap
 bitmap-too-high = refl
+
+-- the example of the program `ppm`, not marked P: 00 02 00 01 00 F8 1F 00 gives the lines `P6`, `2 1`, `255`, then FF 00 00 00 00 FF
+pub picture-written :
+    pictureOf (0x00 ∷ 0x02 ∷ 0x00 ∷ 0x01 ∷ 0x00 ∷ 0xF8 ∷ 0x1F ∷ 0x00 ∷ [])
+    ≡ 80 ∷ 54 ∷ 10 ∷ 50 ∷ 32 ∷ 49 ∷ 10 ∷ 50 ∷ 53 ∷ 53 ∷ 10 ∷ 0xFF ∷ 0x00 ∷ 0x00 ∷ 0x00 ∷ 0x00 ∷ 0xFF ∷ []
+unfolding pictureOf isPicture header digits joined word wideRed wideGreen wideBlue
+picture-written = refl

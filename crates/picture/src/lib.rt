@@ -1,10 +1,7 @@
 // A surface as a P6 picture on standard output, for programs.
-use color::Rgb565;
 use libc::STDOUT_FILENO;
-ghost use mathlib.Core.Path.{_≡_};
-ghost use Prim.Native.Nat.{_+_, _*_, _≤_, _<_};
-ghost use lib.ListN.{length, set};
-ghost use Rattle.color.specs.Color.{wideRed, wideGreen, wideBlue};
+ghost use Prim.Native.Nat.{_+_, _*_, _≤_};
+ghost use lib.ListN.{length};
 
 // The widest surface that is written.
 pub const WIDEST: u32 = 4096;
@@ -43,19 +40,8 @@ fn write_row(pixels: &[u8], first: usize, w: usize)
 {
     let mut bytes = [0u8; 12_288];
     for k in 0..w {
-        put_rgb(&mut bytes, 3 * k, words::word_at(pixels, first + k));
+        snapshot::put_rgb(&mut bytes, 3 * k, words::word_at(pixels, first + k));
     }
     let end = 3 * w;
     io::write_all(STDOUT_FILENO, &bytes[0..end]);
-}
-
-// Puts R, G and B of a word, widened, from `at` on.
-pub fn put_rgb(out: &mut [u8], at: usize, v: u16)
-    requires { ⌜ at + 2 < length (now out) ⌝ }
-    ensures { λ _. ⌜ now (out .exit) ≡ set (set (set (now (out .entry)) at (wideRed v)) (at + 1) (wideGreen v)) (at + 2) (wideBlue v) ⌝ }
-{
-    let w = color::rgb565_to_colorref(Rgb565(v));
-    out[at] = color::red(w);
-    out[at + 1] = color::green(w);
-    out[at + 2] = color::blue(w);
 }

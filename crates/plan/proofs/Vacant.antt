@@ -1,4 +1,4 @@
--- The slots past the count stay vacant by every call. Assumes nothing.
+-- The table keeps its 256 slots, and those past the count stay vacant, by every call. Assumes nothing.
 use mathlib.Core.Bool.{Bool, true, false, cond, _||_}
 use mathlib.Core.List.{List, _∷_}
 use mathlib.Core.Path.{_≡_, refl, _∙_, ap}
@@ -6,9 +6,9 @@ use Prim.Native.Nat.{ℕ, suc, _+_, _-_, _≤_, _<_}
 use native.Mathlib.Decide.{decLt}
 use native.Mathlib.Omega.{arith}
 use lib.Dec.{eqb, leb, ltb}
-use lib.ListN.{length, getD, take, drop, getD-replicate}
+use lib.ListN.{length, getD, take, drop, length-append, length-take, length-drop, length-set, length-replicate, getD-replicate}
 use lib.Seq.{getD-set-other, getD-append-add, getD-drop, length-take-le}
-use borrow.Author.Tests.{eqb-true}
+use borrow.Author.Tests.{eqb-true, leb-false}
 use Rattle.gdi.specs.declared.GdiState.{GdiState}
 use Rattle.gdi.specs.declared.GdiObject.{GdiObject}
 use Rattle.gdi.specs.declared.Slot.{Slot}
@@ -25,7 +25,7 @@ use Rattle.gdi.specs.Lookup.{slotAt, findOf, dcOf, kindOf}
 use Rattle.gdi.proofs.Scan.{found-count, dc-found}
 use Rattle.sound.specs.Sound.{used}
 use Rattle.sound.proofs.Sound.{Sound, parts, table-long}
-use Rattle.memory.proofs.Gap.{closed-freed, closed-past}
+use Rattle.memory.proofs.Gap.{closed-length, closed-freed, closed-past}
 use Rattle.ready.specs.Ready.{commonRefusal}
 use Rattle.ready.proofs.Ready.{ready}
 use Rattle.place.specs.declared.SurfaceId.{SurfaceId}
@@ -58,20 +58,23 @@ behind l n s long i lt =
     ∙ getD-drop (suc n) l (i - suc n) noSlot
     ∙ ap (λ (j : ℕ). getD l j noSlot) f
 
+inserted-long : (l : List Slot) (n : ℕ) (s : Slot) → n < length l → length (inserted l n s) ≡ length l
+inserted-long l n s lt = simp (length-append, length-take, length-drop) (omega arith)
+
 module _ (b : GdiState) (sound : Sound b) (v : Vacant b) where
   -- an object more
-  added-vacant : (o : GdiObject) → Vacant (added b o)
+  added-vacant : (o : GdiObject) → b .count < 256 → Vacant (added b o)
   unfolding added
-  added-vacant o = record { vacant = λ i le lt. behind (b .objects) (b .count) _ (table-long sound) i (omega arith) ∙ v .vacant i (omega arith) lt }
+  added-vacant o few = record { table = inserted-long (b .objects) (b .count) _ (omega (arith, v .table)) ∙ v .table; vacant = λ i le lt. behind (b .objects) (b .count) _ (table-long sound) i (omega arith) ∙ v .vacant i (omega arith) lt }
 
   create-vacant : (o : GdiObject) → Vacant (createOf b o .outcome .state)
   unfolding createOf
-  create-vacant o = by (leb 256 (b .count)) (ltb (b .«store_len») (used b + bytesOf o))
+  create-vacant o = by (leb 256 (b .count)) refl (ltb (b .«store_len») (used b + bytesOf o))
     where
-      by : (s t : Bool) → Vacant (cond s (refuse 5 b) (cond t (refuse 7 b) (made b o)) .outcome .state)
-      by true t = v
-      by false true = v
-      by false false = added-vacant o
+      by : (s : Bool) → leb 256 (b .count) ≡ s → (t : Bool) → Vacant (cond s (refuse 5 b) (cond t (refuse 7 b) (made b o)) .outcome .state)
+      by true e t = v
+      by false e true = v
+      by false e false = added-vacant o (leb-false 256 (b .count) e)
 
   bitmap-vacant : (w h : ℕ) → Vacant (createBitmap b w h .outcome .state)
   unfolding createBitmap
@@ -84,7 +87,7 @@ module _ (b : GdiState) (sound : Sound b) (v : Vacant b) where
   -- an object less
   gone-vacant : (i : ℕ) → i < b .count → Vacant (withoutAt b i)
   unfolding withoutAt
-  gone-vacant i lt = record { vacant = λ j le few. by j le few (decLt j (b .count)) }
+  gone-vacant i lt = record { table = closed-length vacantSlot (b .objects) i 1 (b .count) (omega arith) (table-long sound) ∙ v .table; vacant = λ j le few. by j le few (decLt j (b .count)) }
     where
       fits : b .count ≤ length (b .objects)
       fits = table-long sound
@@ -104,10 +107,10 @@ module _ (b : GdiState) (sound : Sound b) (v : Vacant b) where
 
   -- a DC changed
   stored-vacant : (dc : ℕ) (p : Spot) (d₀ d : Dc) → dcOf b dc ≡ Is p d₀ → Vacant (storeOf b dc p d)
-  stored-vacant dc Screen d₀ d e = record { vacant = v .vacant }
+  stored-vacant dc Screen d₀ d e = record { table = v .table; vacant = v .vacant }
   stored-vacant dc (Created i) d₀ d e =
       let lt : i < b .count = found-count b dc (dc-found b dc e .0) in
-      record { vacant = λ j le few. getD-set-other (b .objects) i j _ noSlot (λ q. absurd (omega (arith, q, lt))) ∙ v .vacant j le few }
+      record { table = length-set (b .objects) i _ ∙ v .table; vacant = λ j le few. getD-set-other (b .objects) i j _ noSlot (λ q. absurd (omega (arith, q, lt))) ∙ v .vacant j le few }
 
   select-vacant : (dc h : ℕ) → Vacant (selectInto b dc h .outcome .state)
   unfolding selectInto
@@ -128,7 +131,7 @@ module _ (b : GdiState) (sound : Sound b) (v : Vacant b) where
 
 -- a mark made
 framed-vacant : (b : GdiState) → Vacant b → Vacant (framed b)
-framed-vacant b v = record { vacant = v .vacant }
+framed-vacant b v = record { table = v .table; vacant = v .vacant }
 
 dirtied-vacant : (b : GdiState) (s : SurfaceId) → Vacant b → Vacant (dirtied b s)
 unfolding dirtied
@@ -136,10 +139,10 @@ dirtied-vacant b Panel v = framed-vacant b v
 dirtied-vacant b (Bitmap h) v = by (eqb h stockBitmap) (findOf b h) refl
   where
     by : (t : Bool) (q : Found) → findOf b h ≡ q → Vacant (cond t (stockDirtied b) (createdDirtied b q))
-    by true q e = record { vacant = v .vacant }
+    by true q e = record { table = v .table; vacant = v .vacant }
     by false (At i) e =
         let lt : i < b .count = found-count b h e in
-        record { vacant = λ j le few. getD-set-other (b .objects) i j _ noSlot (λ q. absurd (omega (arith, q, lt))) ∙ v .vacant j le few }
+        record { table = length-set (b .objects) i _ ∙ v .table; vacant = λ j le few. getD-set-other (b .objects) i j _ noSlot (λ q. absurd (omega (arith, q, lt))) ∙ v .vacant j le few }
     by false Nothing e = v
 
 dirtied-if-vacant : (due : Bool) (s : SurfaceId) (b : GdiState) → Vacant b → Vacant (dirtiedIf due s b)
@@ -173,14 +176,14 @@ module _ (b : GdiState) (sound : Sound b) (v : Vacant b) where
   act-vacant (Rectangle dc a) us = rectangle-by After b none dc a (λ s d. dirtied-if-vacant _ s _ (dirtied-if-vacant _ s b v))
   act-vacant (Text dc at) us = text-by After b none us dc at (λ s d. dirtied-if-vacant _ s b v)
   act-vacant (PanelFill c) us = dirtied-vacant b Panel v
-  act-vacant (Resize w h) us = resize-by After b none w h v (λ e f g. dirtied-vacant (withSides b w h) Panel (record { vacant = v .vacant }))
+  act-vacant (Resize w h) us = resize-by After b none w h v (λ e f g. dirtied-vacant (withSides b w h) Panel (record { table = v .table; vacant = v .vacant }))
   act-vacant (Blit dc a src from rop) us = blit-by After b none dc a src from rop (λ s d. dirtied-if-vacant _ s b v) (λ s d q. dirtied-if-vacant _ s b v)
 
 pub stays-vacant : StaysVacant
 unfolding plan
 stays-vacant =
     record {
-      first = λ n k w h. record { vacant = λ i le lt. getD-replicate 256 i vacantSlot noSlot lt };
+      first = λ n k w h. record { table = length-replicate 256 vacantSlot; vacant = λ i le lt. getD-replicate 256 i vacantSlot noSlot lt };
       stays = λ c us b n k v. by c us b n k v (eqb (commonRefusal b n k) 0) refl;
     }
   where

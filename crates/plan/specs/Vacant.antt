@@ -2,14 +2,16 @@
 use mathlib.Core.List.{List}
 use mathlib.Core.Path.{_≡_}
 use Prim.Native.Nat.{ℕ, _≤_, _<_}
+use lib.ListN.{length}
 use Rattle.gdi.specs.declared.GdiState.{GdiState}
 use Rattle.gdi.specs.Record.{vacantSlot, fresh}
 use Rattle.gdi.specs.Lookup.{slotAt}
 use Rattle.plan.specs.declared.Call.{Call}
 use Rattle.plan.specs.Calls.{plan}
 
--- Every slot past the count is vacant.
+-- There are 256 slots, and every one past the count is vacant.
 pub record Vacant (b : GdiState) : Type 0 where
+  pub table : length (b .objects) ≡ 256
   pub vacant : (i : ℕ) → b .count ≤ i → i < 256 → slotAt b i ≡ vacantSlot
 
 -- It is so of a fresh record, and stays so by every call.

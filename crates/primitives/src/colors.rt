@@ -170,7 +170,7 @@ fn widened_crc(block: u8) -> u32 {
     let mut bytes = [0u8; 768];
     let first = 256 * (block as u16);
     for k in 0u16..256 {
-        picture::put_rgb(&mut bytes, 3 * (k as usize), first + k);
+        snapshot::put_rgb(&mut bytes, 3 * (k as usize), first + k);
     }
     crc32::crc32(&bytes)
 }

@@ -12,9 +12,9 @@ use Rattle.plan.specs.declared.Answer.the-variants.{Refused}
 use Rattle.plan.specs.Settings.{setting}
 
 module _ (old : Dc → Answer) (new : Dc → Dc) (b : GdiState) (dc : ℕ) where
-  pub set-in-dc : {p : Spot} {d d′ : Dc} {after : GdiState} → dcOf b dc ≡ Is p d → d′ ≡ new d → after ≡ storeOf b dc p d′ → record { state = after; answer = old d } ≡ setting old new b dc .outcome
+  pub set-in-dc : {p : Spot} {d d′ : Dc} {a : Answer} {after : GdiState} → dcOf b dc ≡ Is p d → (a ≡ old d) × (d′ ≡ new d) → after ≡ storeOf b dc p d′ → record { state = after; answer = a } ≡ setting old new b dc .outcome
   unfolding setting
-  set-in-dc e n s = rw (e, s, n)
+  set-in-dc e n s = rw (e, s, n .1, n .0)
 
   pub set-no-dc : dcOf b dc ≡ Absent → record { state = b; answer = Refused 1 } ≡ setting old new b dc .outcome
   unfolding setting

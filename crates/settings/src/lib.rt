@@ -1,10 +1,8 @@
 // Settings, each one field of one DC, on a record of at most 256 objects.
 ghost use mathlib.Core.Path.{_≡_};
 ghost use Prim.Native.Nat.{_≤_};
-ghost use Rattle.plan.specs.Dc.{withTextColor, withTextAlign, withBkColor, withBkMode};
 ghost use Rattle.plan.specs.Settings.{setTextColor, setTextAlign, setBkColor, setBkMode};
 use color::Colorref;
-use gdi::Dc;
 use gdi::DcFound;
 use gdi::GdiState;
 use plan::Answer;
@@ -13,50 +11,19 @@ use plan::Outcome;
 // The refusal of a handle that is no DC's.
 pub const NO_DC: u32 = 1;
 
-pub fn with_text_color(d: Dc, color: Colorref) -> Dc
-    ensures { λ r. ⌜ r ≡ withTextColor d color ⌝ }
-{
-    let mut after = d;
-    after.text_color = color;
-    after
-}
-
-pub fn with_text_align(d: Dc, align: u32) -> Dc
-    ensures { λ r. ⌜ r ≡ withTextAlign d align ⌝ }
-{
-    let mut after = d;
-    after.text_align = align;
-    after
-}
-
-pub fn with_bk_color(d: Dc, color: Colorref) -> Dc
-    ensures { λ r. ⌜ r ≡ withBkColor d color ⌝ }
-{
-    let mut after = d;
-    after.bk_color = color;
-    after
-}
-
-pub fn with_bk_mode(d: Dc, transparent: bool) -> Dc
-    ensures { λ r. ⌜ r ≡ withBkMode d transparent ⌝ }
-{
-    let mut after = d;
-    after.bk_transparent = transparent;
-    after
-}
-
 pub fn set_text_color(state: GdiState, dc: u32, color: Colorref) -> Outcome
     requires { ⌜ state .count ≤ 256 ⌝ }
     ensures { λ r. ⌜ r ≡ setTextColor state dc color .outcome ⌝ }
 {
     match gdi::find_dc(state, dc) {
         DcFound::Is(p, d) => {
-            let e = with_text_color(d, color);
-            let after = gdi::store_dc(state, dc, p, e);
-            let old = d.text_color;
+            let set = dc_mut::with_text_color(d, color);
+            let recolored = set.dc;
+            let old_color = set.old;
+            let after = gdi::store_dc(state, dc, p, recolored);
             Outcome {
                 state: after,
-                answer: Answer::OldColor(old),
+                answer: Answer::OldColor(old_color),
             }
         }
         DcFound::Absent => Outcome {
@@ -72,11 +39,12 @@ pub fn set_text_align(state: GdiState, dc: u32, align: u32) -> Outcome
 {
     match gdi::find_dc(state, dc) {
         DcFound::Is(p, d) => {
-            let e = with_text_align(d, align);
-            let after = gdi::store_dc(state, dc, p, e);
+            let set = dc_mut::with_text_align(d, align);
+            let realigned = set.dc;
+            let after = gdi::store_dc(state, dc, p, realigned);
             Outcome {
                 state: after,
-                answer: Answer::OldAlign(d.text_align),
+                answer: Answer::OldAlign(set.old),
             }
         }
         DcFound::Absent => Outcome {
@@ -92,12 +60,13 @@ pub fn set_bk_color(state: GdiState, dc: u32, color: Colorref) -> Outcome
 {
     match gdi::find_dc(state, dc) {
         DcFound::Is(p, d) => {
-            let e = with_bk_color(d, color);
-            let after = gdi::store_dc(state, dc, p, e);
-            let old = d.bk_color;
+            let set = dc_mut::with_bk_color(d, color);
+            let regrounded = set.dc;
+            let old_ground = set.old;
+            let after = gdi::store_dc(state, dc, p, regrounded);
             Outcome {
                 state: after,
-                answer: Answer::OldColor(old),
+                answer: Answer::OldColor(old_ground),
             }
         }
         DcFound::Absent => Outcome {
@@ -113,11 +82,12 @@ pub fn set_bk_mode(state: GdiState, dc: u32, transparent: bool) -> Outcome
 {
     match gdi::find_dc(state, dc) {
         DcFound::Is(p, d) => {
-            let e = with_bk_mode(d, transparent);
-            let after = gdi::store_dc(state, dc, p, e);
+            let set = dc_mut::with_bk_mode(d, transparent);
+            let remoded = set.dc;
+            let after = gdi::store_dc(state, dc, p, remoded);
             Outcome {
                 state: after,
-                answer: Answer::OldMode(d.bk_transparent),
+                answer: Answer::OldMode(set.old),
             }
         }
         DcFound::Absent => Outcome {

@@ -1,7 +1,8 @@
 -- `settings::set_bk_mode` meets its contract. Assumes nothing.
-use mathlib.Core.Path.{sym, _∙_}
+use mathlib.Core.Path.{sym, ap, _∙_}
 use borrow.Author.Needs.{needs}
 use Rattle.gdi.proofs.Scan.{dc-within}
+use Rattle.plan.specs.declared.Answer.the-variants.{OldMode}
 use Rattle.settings.proofs.Settings.{set-in-dc, set-no-dc}
 use Rattle.settings.proofs.set_bk_mode.Statement.{statement}
 use Rattle.settings.proofs.set_bk_mode.Tie as tie
@@ -16,13 +17,13 @@ with-bk-mode-requires : tie.Need-with-bk-mode-requires
 with-bk-mode-requires c κs = search needs
 
 store-dc-requires : tie.Need-store-dc-requires
-store-dc-requires c κs = dc-within _ _ (sym (c .before .before .before .before .find-dc .ensures) ∙ c .before .before .p .given .1) (search needs)
+store-dc-requires c κs = dc-within _ _ (sym (c .before .before .before .before .before .find-dc .ensures) ∙ c .before .before .before .p .given .1) (search needs)
 
 enum-told : tie.Need-enum-told
 enum-told c = search needs
 
 returns : tie.Need-returns
-returns c = set-in-dc _ _ _ _ (sym (c .before .before .before .before .before .find-dc .ensures) ∙ c .before .before .before .p .given .1) (c .before .with-bk-mode .ensures) (c .store-dc .ensures)
+returns c = set-in-dc _ _ _ _ (sym (c .before .before .before .before .before .before .find-dc .ensures) ∙ c .before .before .before .before .p .given .1) (ap OldMode (c .before .before .with-bk-mode .ensures .0), c .before .before .with-bk-mode .ensures .1) (c .store-dc .ensures)
 
 returns-2 : tie.Need-returns-2
 returns-2 c = set-no-dc _ _ _ _ (sym (c .before .before .find-dc .ensures) ∙ c .enum-told .given .1)

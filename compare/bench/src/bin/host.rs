@@ -1,0 +1,344 @@
+//! Times whole calls on a bench through the host library beside the original's,
+//! and beside the pixel work alone: the same drawing by the proved operation on
+//! lent bytes. In each round one after the other, the order changing, each on a
+//! scene of its own; a row has the medians over the rounds. The answers, panels,
+//! bitmaps and frame counters must be equal. Every proved call checks the record
+//! anew, which the original never does.
+
+#[path = "../proved.rs"]
+#[allow(dead_code)]
+mod proved;
+
+use std::hint::black_box;
+use std::time::Instant;
+
+use pocket_kernel::font::draw_str_u16;
+use pocket_kernel::framebuffer::{colorref_to_rgb565, Framebuffer};
+use pocket_kernel::gdi::{rop3, GdiState, Surface, GDI_SCREEN_DC};
+use ravinefork::{Area, Bench, Colorref, Handle, Point, Refusal, Rgb565};
+
+/// About how long one of them is timed in a round, in nanoseconds, and how often
+/// it is called at most; fewer than the handles before the stock ones.
+const SLICE: f64 = 2e6;
+const MOST: f64 = 8000.0;
+
+const PANEL: [u32; 2] = [240, 320];
+const BITMAP: [u32; 2] = [100, 100];
+const AREA: [i32; 4] = [70, 110, 100, 100];
+const TEXT_AT: [i32; 2] = [96, 150];
+const TEXT: &str = "MODULE 6";
+
+/// What is called.
+#[derive(Clone, Copy, PartialEq)]
+enum Call {
+    SetTextColor,
+    Select,
+    CreateDelete,
+    PatternFill,
+    Blit,
+    Text,
+}
+
+/// The rows; creation and deletion are two calls.
+const ROWS: [(&str, Call); 6] = [
+    ("set text colour", Call::SetTextColor),
+    ("select", Call::Select),
+    ("create a brush, delete it (both)", Call::CreateDelete),
+    ("pattern fill PATCOPY 100×100", Call::PatternFill),
+    ("blit SRCCOPY 100×100", Call::Blit),
+    ("text, 8 units", Call::Text),
+];
+
+/// Created objects while the call is made; a brush that it creates is one.
+const OBJECTS: [u32; 3] = [20, 64, 256];
+
+/// The handles that calls name: those of the last created objects, which stand
+/// at the end of the record.
+#[derive(Clone, Copy)]
+struct Handles {
+    dc: u32,
+    bitmap: u32,
+    brush: u32,
+}
+
+/// A scene: a panel of one colour, brushes, a memory DC, a bitmap in it with a
+/// rectangle, and a brush.
+trait Scene {
+    fn new(brushes: u32) -> Self;
+    /// Makes the call; its answer.
+    fn call(&mut self, call: Call, i: u32) -> u32;
+}
+
+/// The proved bench.
+struct Host {
+    bench: Bench,
+    handles: Handles,
+    units: Vec<u16>,
+}
+
+impl Host {
+    fn made(brushes: u32) -> Result<Host, Refusal> {
+        let [width, height] = PANEL;
+        let mut bench = Bench::open(width, height, (2 * width * height) as usize, 1 << 20)?;
+        bench.panel_fill(Rgb565(0xA5C3))?;
+        for i in 0..brushes {
+            bench.create_solid_brush(Colorref(i))?;
+        }
+        let dc = bench.create_memory_dc()?;
+        let bitmap = bench.create_compatible_bitmap(BITMAP[0], BITMAP[1])?;
+        bench.select_into(dc, bitmap)?;
+        bench.rectangle(dc, Area { x: 10, y: 20, w: 80, h: 50 })?;
+        let brush = bench.create_solid_brush(Colorref(0x0012_3456))?;
+        let handles = Handles { dc: dc.0, bitmap: bitmap.0, brush: brush.0 };
+        Ok(Host { bench, handles, units: TEXT.encode_utf16().collect() })
+    }
+
+    fn answer(&mut self, call: Call, i: u32) -> Result<u32, Refusal> {
+        let bench = &mut self.bench;
+        let (dc, screen) = (Handle(black_box(self.handles.dc)), Handle::GDI_SCREEN_DC);
+        let [x, y, w, h] = AREA;
+        let area = Area { x, y, w, h };
+        Ok(match call {
+            Call::SetTextColor => bench.set_text_color(dc, Colorref(i))?.0,
+            Call::Select => {
+                let old = bench.select_into(dc, Handle(self.handles.brush))?;
+                self.handles.brush = old.0;
+                old.0
+            }
+            Call::CreateDelete => {
+                let handle = bench.create_solid_brush(Colorref(i))?;
+                bench.delete(black_box(handle))?;
+                handle.0
+            }
+            Call::PatternFill => {
+                bench.pattern_fill(screen, area, black_box(rop3::PATCOPY)).map(|()| 0)?
+            }
+            Call::Blit => {
+                let from = Point { x: 0, y: 0 };
+                bench.blit(screen, area, dc, from, black_box(rop3::SRCCOPY)).map(|()| 0)?
+            }
+            Call::Text => {
+                let at = Point { x: TEXT_AT[0], y: TEXT_AT[1] };
+                bench.text_out(screen, at, black_box(&self.units))?
+            }
+        })
+    }
+}
+
+impl Scene for Host {
+    fn new(brushes: u32) -> Self {
+        Host::made(brushes).expect("a bench")
+    }
+
+    fn call(&mut self, call: Call, i: u32) -> u32 {
+        self.answer(call, i).expect("an answer")
+    }
+}
+
+/// The original's objects and panel.
+struct Original {
+    gdi: GdiState,
+    panel: Framebuffer,
+    handles: Handles,
+    units: Vec<u16>,
+}
+
+/// A DC's brush, pen and text colours, packed.
+fn colors(gdi: &GdiState, dc: u32) -> [u16; 3] {
+    let dc = gdi.dc(black_box(dc)).expect("the DC");
+    [dc.brush_color, dc.pen_color, dc.text_color].map(colorref_to_rgb565)
+}
+
+impl Scene for Original {
+    fn new(brushes: u32) -> Self {
+        let mut panel = Framebuffer::new(PANEL[0], PANEL[1]);
+        panel.fill(0xA5C3);
+        let mut gdi = GdiState::new();
+        (0..brushes).for_each(|i| _ = gdi.create_solid_brush(i));
+        let dc = gdi.create_memory_dc();
+        let bitmap = gdi.create_compatible_bitmap(BITMAP[0], BITMAP[1]);
+        gdi.select_into(dc, bitmap);
+        let [brush, pen, _] = colors(&gdi, dc);
+        let mut surface = Surface::Bitmap(gdi.bitmap_mut(bitmap).expect("the bitmap"));
+        surface.fill_rect(10, 20, 80, 50, brush);
+        surface.stroke_rect(10, 20, 80, 50, pen);
+        let brush = gdi.create_solid_brush(0x0012_3456);
+        let handles = Handles { dc, bitmap, brush };
+        Original { gdi, panel, handles, units: TEXT.encode_utf16().collect() }
+    }
+
+    fn call(&mut self, call: Call, i: u32) -> u32 {
+        let Original { gdi, panel, handles, units } = self;
+        let dc = black_box(handles.dc);
+        let [x, y, w, h] = AREA;
+        match call {
+            Call::SetTextColor => {
+                let dc = gdi.dc_mut(dc).expect("the DC");
+                std::mem::replace(&mut dc.text_color, i)
+            }
+            Call::Select => {
+                handles.brush = gdi.select_into(dc, handles.brush);
+                handles.brush
+            }
+            Call::CreateDelete => {
+                let handle = gdi.create_solid_brush(i);
+                gdi.delete(black_box(handle));
+                handle
+            }
+            Call::PatternFill => {
+                let [brush, ..] = colors(gdi, GDI_SCREEN_DC);
+                let mut surface = Surface::Screen(panel);
+                surface.fill_rect_rop(x, y, w, h, brush, black_box(rop3::PATCOPY));
+                0
+            }
+            Call::Blit => {
+                let [brush, ..] = colors(gdi, GDI_SCREEN_DC);
+                let source = gdi.dc(dc).and_then(|dc| dc.selected_bitmap);
+                let bitmap = source.and_then(|handle| gdi.bitmap(handle)).expect("the bitmap");
+                let (bytes, width, height) = (&bitmap.pixels, bitmap.width, bitmap.height);
+                let rop = black_box(rop3::SRCCOPY);
+                let mut surface = Surface::Screen(panel);
+                surface.blit_from_bytes_rop(x, y, 0, 0, w, h, bytes, width, height, rop, brush);
+                0
+            }
+            Call::Text => {
+                let [_, _, color] = colors(gdi, GDI_SCREEN_DC);
+                let mut surface = Surface::Screen(panel);
+                let [x, y] = TEXT_AT;
+                let advance = draw_str_u16(&mut surface, x, y, black_box(units), color);
+                surface.mark_dirty();
+                advance as u32
+            }
+        }
+    }
+}
+
+/// The pixel work alone: the proved operation on the panel's bytes.
+struct Pixels {
+    panel: proved::Surface,
+    bitmap: Vec<u8>,
+    colors: [u16; 3],
+    units: Vec<u16>,
+}
+
+impl Scene for Pixels {
+    fn new(brushes: u32) -> Self {
+        let Original { gdi, panel, handles, units } = Original::new(brushes);
+        let bitmap = gdi.bitmap(handles.bitmap).expect("the bitmap").pixels.clone();
+        let [width, height] = PANEL;
+        let panel = proved::Surface { pixels: panel.pixels, width, height };
+        Pixels { panel, bitmap, colors: colors(&gdi, GDI_SCREEN_DC), units }
+    }
+
+    fn call(&mut self, call: Call, _: u32) -> u32 {
+        let [brush, _, color] = self.colors;
+        let [x, y, ..] = AREA;
+        match call {
+            Call::PatternFill => {
+                self.panel.fill_rect_rop(AREA, brush, black_box(rop3::PATCOPY));
+                0
+            }
+            Call::Blit => {
+                let rop = black_box(rop3::SRCCOPY);
+                self.panel.blit_at([x, y], &self.bitmap, BITMAP, rop, brush);
+                0
+            }
+            Call::Text => {
+                let [x, y] = TEXT_AT;
+                self.panel.draw_str_u16(x, y, black_box(&self.units), color) as u32
+            }
+            _ => 0,
+        }
+    }
+}
+
+impl Call {
+    fn draws(self) -> bool {
+        matches!(self, Call::PatternFill | Call::Blit | Call::Text)
+    }
+
+    /// The brushes that a scene begins with, beside the DC, the bitmap and the
+    /// last brush.
+    fn brushes(self, objects: u32) -> u32 {
+        objects - if self == Call::CreateDelete { 4 } else { 3 }
+    }
+}
+
+/// Nanoseconds for each of `count` calls on a new scene.
+fn time<S: Scene>(call: Call, brushes: u32, count: u32) -> f64 {
+    let mut scene = S::new(brushes);
+    let start = Instant::now();
+    for i in 0..count {
+        black_box(scene.call(call, i));
+    }
+    start.elapsed().as_nanos() as f64 / f64::from(count)
+}
+
+/// Makes the call a hundred times on each: answers, panels, bitmaps and frame
+/// counters must be equal.
+fn check(call: Call, brushes: u32) {
+    let (mut host, mut original) = (Host::new(brushes), Original::new(brushes));
+    let mut pixels = Pixels::new(brushes);
+    for i in 0..100 {
+        let answer = host.call(call, i);
+        assert_eq!(answer, original.call(call, i), "the answers differ");
+        let alone = pixels.call(call, i);
+        assert!(!call.draws() || alone == answer, "the answers differ");
+    }
+    let (bench, handles) = (&host.bench, original.handles);
+    assert!(bench.panel() == original.panel.pixels, "the panels differ");
+    assert!(pixels.panel.pixels == original.panel.pixels, "the panels differ");
+    let bitmap = &original.gdi.bitmap(handles.bitmap).expect("the bitmap").pixels;
+    assert!(bench.bitmap_pixels(Handle(handles.bitmap)) == Some(bitmap), "the bitmaps differ");
+    assert_eq!(bench.frame_counter(), original.panel.frame_counter, "the marks differ");
+    let theirs = original.gdi.dc(handles.dc).expect("the DC");
+    let ours = bench.record().dc(Handle(handles.dc)).expect("the DC");
+    assert_eq!(ours.text_color.0, theirs.text_color, "the text colours differ");
+    assert_eq!(ours.selected_brush.0, theirs.selected_brush, "the brushes differ");
+    assert_eq!(ours.brush_color.0, theirs.brush_color, "the brushes differ");
+}
+
+fn median(mut times: Vec<f64>) -> f64 {
+    times.sort_by(f64::total_cmp);
+    times[times.len() / 2]
+}
+
+/// The medians of the call on the bench, by the original, and of its pixel work.
+fn measure(call: Call, objects: u32, rounds: u32) -> [f64; 3] {
+    let brushes = call.brushes(objects);
+    check(call, brushes);
+    let timers = [time::<Host>, time::<Original>, time::<Pixels>];
+    let fitting = |once: f64| (SLICE / once.max(1.0)).clamp(1.0, MOST) as u32;
+    let counts = timers.map(|timer| fitting(timer(call, brushes, 100)));
+    let mut times = [const { Vec::new() }; 3];
+    for round in 0..rounds as usize {
+        for turn in 0..3 {
+            let which = (round + turn) % 3;
+            times[which].push(timers[which](call, brushes, counts[which]));
+        }
+    }
+    times.map(median)
+}
+
+fn main() {
+    let rounds = std::env::args().nth(1).map_or(Ok(101), |n| n.parse());
+    let Ok(rounds @ 1..) = rounds else {
+        eprintln!("host [ROUNDS]");
+        std::process::exit(2);
+    };
+    println!(
+        "| call | objects | proved, ns | pixel work alone, ns | above it, ns | original, ns |"
+    );
+    println!("|---|---|---|---|---|---|");
+    for (name, call) in ROWS {
+        for objects in OBJECTS {
+            let [ours, theirs, pixels] = measure(call, objects, rounds);
+            let (alone, above) = match call.draws() {
+                true => (format!("{pixels:.0}"), ours - pixels),
+                false => ("–".into(), ours),
+            };
+            println!("| {name} | {objects} | {ours:.0} | {alone} | {above:.0} | {theirs:.0} |");
+        }
+    }
+    println!("{rounds} rounds, medians; answers, pixels and marks equal");
+}

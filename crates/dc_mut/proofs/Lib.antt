@@ -1,0 +1,4 @@
+pub mod Setting
+pub mod Fields
+pub mod Valued
+pub mod Answers

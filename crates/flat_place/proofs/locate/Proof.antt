@@ -1,0 +1,89 @@
+-- `flat_place::locate` meets its contract. Assumes nothing.
+use mathlib.Core.Path.{_≡_}
+use Prim.Native.Nat.{_-_, _≤_}
+use native.Mathlib.Omega.{arith}
+use lib.ListN.{length}
+use borrow.Author.Needs.{needs}
+use Rattle.flat.specs.View.{view}
+use Rattle.flat.proofs.Seen.{record-length, record-count}
+use Rattle.sound.specs.Sound.{startOf}
+use Rattle.sound.proofs.Bytes.{start-none}
+use Rattle.place.specs.Place.{live, locate}
+use Rattle.place.proofs.Places.{locatedFrom, start as at-start}
+use Rattle.flat_place.proofs.Places.{object-sound, located-seen, next-small, next-start, miss-seen, end-seen}
+use Rattle.flat_place.proofs.locate.Statement.{statement}
+use Rattle.flat_place.proofs.locate.Tie as tie
+
+abbrev Inv-loop : tie.InvT-loop
+Inv-loop l handle n i₀ start₀ i start =
+    (i ≤ n) × ((n ≤ 256) × ((length l ≡ 3605) × ((start ≡ startOf (view l) i) × (locatedFrom (view l) handle i start ≡ locate (live (view l)) 2 handle))))
+
+abbrev μ-loop : tie.MeasureT-loop
+μ-loop l handle n i₀ start₀ i start = n - i
+
+shared-slice-read-n : tie.Need-shared-slice-read-n Inv-loop μ-loop
+shared-slice-read-n c = omega (arith, record-length _ (c .before .before .pre .0))
+
+cast-n : tie.Need-cast-n Inv-loop μ-loop
+cast-n c = omega (arith, c .shared-slice-known2 .given 8)
+
+loop-holds : tie.Need-loop-holds Inv-loop μ-loop
+loop-holds c = (search needs, (record-count _ (c .before .before .pre .0), (record-length _ (c .before .before .pre .0), (start-none (view (c .before .before .args .l .now)), at-start (view (c .before .before .args .l .now)) (c .before .before .args .handle)))))
+
+mul-p : tie.Need-mul-p Inv-loop μ-loop
+mul-p c = omega arith
+
+add-p : tie.Need-add-p Inv-loop μ-loop
+add-p c = omega arith
+
+mul-if1 : tie.Need-mul-if1 Inv-loop μ-loop
+mul-if1 c = omega arith
+
+shared-slice-read-if1 : tie.Need-shared-slice-read-if1 Inv-loop μ-loop
+shared-slice-read-if1 c = omega arith
+
+frame-requires : tie.Need-frame-requires Inv-loop μ-loop
+frame-requires c κs = omega arith
+
+returns : tie.Need-returns Inv-loop μ-loop
+returns c = located-seen (c .before .before .before .before .before .before .before .args .l .now) (c .before .before .before .before .before .before .before .pre .0) (c .before .before .before .before .before .before .before .pre .1) (c .before .before .before .before .loop .i) (c .before .before .before .loop-test .taken) (c .before .before .before .before .loop .inv .1 .1 .1 .0) _ (c .before .if1 .taken) (c .before .before .before .before .loop .inv .1 .1 .1 .1) (c .frame .ensures)
+
+bytes-of-requires : tie.Need-bytes-of-requires Inv-loop μ-loop
+bytes-of-requires c κs = (omega arith, object-sound (c .before .before .before .before .before .before .args .l .now) (c .before .before .before .before .before .before .pre .0) (c .before .before .before .before .before .before .pre .1) (c .before .before .before .loop .i) (c .before .before .loop-test .taken))
+
+add-start : tie.Need-add-start Inv-loop μ-loop
+add-start c = omega (arith, next-small (c .before .before .before .before .before .before .before .args .l .now) (c .before .before .before .before .before .before .before .pre .0) (c .before .before .before .before .before .before .before .pre .1) (c .before .before .before .before .loop .i) (c .before .before .before .loop-test .taken) (c .before .before .before .before .loop .inv .1 .1 .1 .0) (c .bytes-of .ensures))
+
+add-i : tie.Need-add-i Inv-loop μ-loop
+add-i c = omega arith
+
+loop-less : tie.Need-loop-less Inv-loop μ-loop
+loop-less c = omega arith
+
+loop-again : tie.Need-loop-again Inv-loop μ-loop
+loop-again c = let l = c .before .before .before .before .before .before .before .args .l .now in (search needs, (search needs, (search needs, (next-start l (c .before .before .before .before .before .before .before .pre .0) (c .before .before .before .before .before .before .before .pre .1) (c .before .before .before .before .loop .i) (c .before .before .before .loop-test .taken) (c .before .before .before .before .loop .inv .1 .1 .1 .0) (c .bytes-of .ensures), miss-seen l (c .before .before .before .before .before .before .before .pre .0) (c .before .before .before .before .before .before .before .pre .1) (c .before .before .before .before .loop .i) (c .before .before .before .loop-test .taken) (c .before .before .before .before .loop .inv .1 .1 .1 .0) (c .bytes-of .ensures) _ (c .before .if1 .left) (c .before .before .before .before .loop .inv .1 .1 .1 .1)))))
+
+returns-2 : tie.Need-returns-2 Inv-loop μ-loop
+returns-2 c = end-seen (c .before .before .before .before .args .l .now) (c .before .before .before .before .args .handle) (c .before .loop .i) (c .before .loop .start) (c .loop-test .left) (c .before .loop .inv .1 .1 .1 .1)
+
+pub locate-spec : {M : Type 1} → statement M
+locate-spec =
+    tie.close
+    (tie.spec
+    Inv-loop
+    μ-loop
+    shared-slice-read-n
+    cast-n
+    loop-holds
+    mul-p
+    add-p
+    mul-if1
+    shared-slice-read-if1
+    frame-requires
+    returns
+    bytes-of-requires
+    add-start
+    add-i
+    loop-less
+    loop-again
+    returns-2)

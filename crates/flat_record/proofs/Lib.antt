@@ -1,0 +1,2 @@
+mod Encoded
+pub mod Slots

@@ -1,0 +1,97 @@
+-- The tests of slots and handles, read from numbers. Assumes nothing.
+use mathlib.Core.Bool.{Bool, true, false, not, _&&_}
+use mathlib.Core.List.{List}
+use mathlib.Core.Path.{_≡_, refl, sym, _∙_, ap}
+use Prim.Native.Nat.{ℕ, _+_, _-_, _*_, _<_, _≤_}
+use native.Mathlib.Omega.{arith}
+use lib.Dec.{eqb}
+use lib.ListN.{length}
+use borrow.Author.Tests.{eq-eqb, ne-eqb, lt-leb}
+use Rattle.laws.specs.Test.{allBelow}
+use Rattle.laws.proofs.Test.{all-fails, not-left}
+use Rattle.gdi.specs.Record.{bytesOf}
+use Rattle.gdi.specs.Stock.{isStock}
+use Rattle.gdi.specs.Lookup.{slotAt, handleAt, objectAt}
+use Rattle.flat.specs.Block.{at}
+use Rattle.flat.specs.View.{view, isRecord}
+use Rattle.flat.proofs.Seen.{count-seen, record-length, record-count, handle-seen, object-seen}
+use Rattle.sound.specs.Sound.{objectFits, slotFits, slotsFit, absent, ascending}
+use Rattle.sound.proofs.Bytes.{fits-below, small}
+use Rattle.sound.proofs.Handles.{absent-more, rises, falls}
+use Rattle.flat_sound.proofs.Objects.{objectFrom}
+
+-- a test of the first i slots, at the end of the table
+pub all-seen : (l : List ℕ) (f : ℕ → Bool) {i : ℕ} → i ≡ at l 8 → allBelow i f ≡ true → true ≡ allBelow (view l .count) f
+all-seen l f e h = sym (rw (e ∙ sym (count-seen l)) at h)
+
+pub some-fails : (l : List ℕ) (f : ℕ → Bool) {i : ℕ} → i < at l 8 → f i ≡ false → false ≡ allBelow (view l .count) f
+some-fails l f {i} lt e = sym (all-fails i (view l .count) f (rw (count-seen l) lt) e)
+
+-- a handle that is neither 0 nor stock
+abbrev pub handleFits : ℕ → Bool
+handleFits h = not (eqb h 0) && not (isStock h)
+
+and-group : (a b c : Bool) → (a && (b && c)) ≡ ((a && b) && c)
+and-group true b c = refl
+and-group false b c = refl
+
+-- one that is given before handles go round
+pub given-fits : (h : ℕ) → 0xDEAD_1000 ≤ h → h < 0xDEAD_5701 → true ≡ handleFits h
+unfolding isStock
+given-fits h a b =
+    simp (
+      ne-eqb h 0 (λ e. omega arith),
+      lt-leb 0xDEAD_5701 h b,
+      ne-eqb 0xDEAD_0DC0 h (λ e. omega arith),
+      ne-eqb 0xDEAD_5710 h (λ e. omega arith),
+      ne-eqb 0xDEAD_5720 h (λ e. omega arith),
+    )
+
+module _ (l : List ℕ) (r : isRecord l ≡ true) where
+  pub slot-room : (i : ℕ) → i < at l 8 → 21 + 14 * i + 14 ≤ length l
+  slot-room i lt = omega (arith, record-count l r, record-length l r)
+
+  -- slot i
+  module _ (i : ℕ) (lt : i < at l 8) where
+    slot-fits : slotFits (slotAt (view l) i) ≡ (handleFits (at l (21 + 14 * i)) && objectFits (objectFrom l (21 + 14 * i)))
+    slot-fits = rw (handle-seen l r i lt, object-seen l r i lt) (and-group (not (eqb (at l (21 + 14 * i)) 0)) (not (isStock (at l (21 + 14 * i)))) (objectFits (objectFrom l (21 + 14 * i))))
+
+    pub handle-unfit : handleFits (at l (21 + 14 * i)) ≡ false → slotFits (slotAt (view l) i) ≡ false
+    handle-unfit e = slot-fits ∙ not-left (objectFits (objectFrom l (21 + 14 * i))) e
+
+    pub by-object : handleFits (at l (21 + 14 * i)) ≡ true → {t : Bool} → objectFits (objectFrom l (21 + 14 * i)) ≡ t → slotFits (slotAt (view l) i) ≡ t
+    by-object e f = slot-fits ∙ ap (λ (u : Bool). u && objectFits (objectFrom l (21 + 14 * i))) e ∙ f
+
+    -- its object, in a table whose slots fit
+    pub fits-seen : slotsFit (view l) ≡ true → objectFits (objectFrom l (21 + 14 * i)) ≡ true
+    fits-seen f = sym (ap objectFits (object-seen l r i lt)) ∙ fits-below (view l) f i (rw (count-seen l) lt)
+
+    pub bytes-seen : {x : ℕ} → x ≡ bytesOf (objectFrom l (21 + 14 * i)) → x ≡ bytesOf (objectAt (view l) i)
+    bytes-seen e = e ∙ sym (ap bytesOf (object-seen l r i lt))
+
+    pub bytes-small : slotsFit (view l) ≡ true → {x : ℕ} → x ≡ bytesOf (objectFrom l (21 + 14 * i)) → x ≤ 33554432
+    bytes-small f e = small (view l) f i (rw (count-seen l) lt) (bytes-seen e)
+
+  -- the handles of slot i and the one before it
+  module _ (i : ℕ) (lt : i < at l 8) (some : 1 ≤ i) where
+    before-seen : handleAt (view l .objects) (i - 1) ≡ at l (21 + 14 * i - 14)
+    before-seen = handle-seen l r (i - 1) (omega arith) ∙ ap (at l) (omega arith)
+
+    pub rises-seen : ascending (view l .objects) i ≡ true → at l (21 + 14 * i - 14) < at l (21 + 14 * i) → ascending (view l .objects) (i + 1) ≡ true
+    rises-seen a h = rises (view l .objects) i some a (omega (arith, before-seen, handle-seen l r i lt))
+
+    pub falls-seen : at l (21 + 14 * i) ≤ at l (21 + 14 * i - 14) → false ≡ ascending (view l .objects) (view l .count)
+    falls-seen h = sym (falls (view l .objects) i some (view l .count) (rw (count-seen l) lt) (omega (arith, before-seen, handle-seen l r i lt)))
+
+  -- slots j and k, j before k
+  module _ (j k : ℕ) (below : j < k) (lt : k < at l 8) where
+    pub same-seen : at l (21 + 14 * j) ≡ at l (21 + 14 * k) → false ≡ absent (view l .objects) k (handleAt (view l .objects) k)
+    same-seen e =
+        sym (all-fails j k (λ i. not (eqb (handleAt (view l .objects) i) (handleAt (view l .objects) k))) below
+        (ap not (eq-eqb _ _ (handle-seen l r j (omega arith) ∙ e ∙ sym (handle-seen l r k lt)))))
+
+    pub differs-seen : absent (view l .objects) j (handleAt (view l .objects) k) ≡ true → (at l (21 + 14 * j) ≡ at l (21 + 14 * k) → ⊥)
+        → absent (view l .objects) (j + 1) (handleAt (view l .objects) k) ≡ true
+    differs-seen a ne =
+        absent-more (view l .objects) j (handleAt (view l .objects) k) a
+        (λ e. ne (sym (handle-seen l r j (omega arith)) ∙ e ∙ handle-seen l r k lt))

@@ -1,0 +1,20 @@
+-- `flat_store::mark_dirty_if` meets its contract. Assumes nothing.
+use Rattle.flat_store.proofs.Marks.{due-stored, undue-stored}
+use borrow.Author.Needs.{needs}
+use Rattle.flat_store.proofs.mark_dirty_if.Statement.{statement}
+use Rattle.flat_store.proofs.mark_dirty_if.Tie as tie
+
+mark-dirty-requires : tie.Need-mark-dirty-requires
+mark-dirty-requires c κs = search needs
+
+same-length : tie.Need-same-length
+same-length c = search needs
+
+returns : tie.Need-returns
+returns c = due-stored _ _ (c .before .before .before .before .if1 .taken) (c .before .before .mark-dirty .ensures)
+
+returns-2 : tie.Need-returns-2
+returns-2 c = undue-stored _ _ (c .before .before .pre) (c .if1 .left)
+
+pub mark-dirty-if-spec : {M : Type 1} → statement M
+mark-dirty-if-spec = tie.close (tie.spec mark-dirty-requires same-length returns returns-2)

@@ -1,0 +1,22 @@
+-- `lent::blit_from_bytes_rop` meets its contract: the surface is taken apart, and `blit::blit_from_bytes_rop` is called. Assumes nothing.
+use contract.Running.{givenOf, tables, tablesOf}
+use denote.Triple.Spec.{tripleOf}
+use denote.Triple.Table.{entered, cited}
+use Rattle.lent.proofs.Drawings.{blits}
+use Rattle.lent.proofs.Operation.{Parts, both-say}
+use Rattle.lent.proofs.Walks.{apart-meets}
+use Rattle.blit.proofs.blit_from_bytes_rop.Symbol as callee-def
+use Rattle.blit.proofs.blit_from_bytes_rop.Symbol.{name as #blit·blit-from-bytes-rop}
+use Rattle.blit.proofs.blit_from_bytes_rop.Met as callee-thm
+use Rattle.lent.proofs.blit_from_bytes_rop.Key.{name as #lent·blit-from-bytes-rop}
+use Rattle.lent.proofs.blit_from_bytes_rop as f
+use Rattle.lent.proofs.blit_from_bytes_rop.Statement as stated
+use Rattle.lent.proofs.blit_from_bytes_rop.Code as code
+
+pub blit-from-bytes-rop-spec : {M : Type 1} → stated.statement M
+unfolding code.routine tablesOf
+blit-from-bytes-rop-spec 𝓤 H 𝓜 𝓖 𝓡 =
+    entered 𝓤 H (tripleOf 𝓤 H (𝓖 .A) f.signature (f.spec 𝓤 H (𝓖 .A) (𝓜 .mem) (𝓡 .run)))
+    (tables 𝓤 H 𝓜 𝓡 code.env .C) (tables 𝓤 H 𝓜 𝓡 code.env .Λ) #lent·blit-from-bytes-rop code.function (code.unfolded 𝓤 H 𝓜 𝓡)
+    (apart-meets 𝓤 H (𝓖 .A) (givenOf 𝓤 H 𝓜 𝓖) blits #blit·blit-from-bytes-rop (tablesOf 𝓤 H 𝓜 (tables 𝓤 H 𝓜 𝓡 code.env)) (f.clauses 𝓤 H (𝓖 .A) (𝓜 .mem) (𝓡 .run)) (λ κs a g r zs answers leaves. both-say 𝓤 answers leaves)
+    (cited 𝓤 H (Parts 𝓤 H (𝓖 .A) blits) 𝓜 𝓡 code.env #blit·blit-from-bytes-rop callee-def.routine code.calls-blit·blit-from-bytes-rop (callee-thm.met 𝓤 H 𝓜 𝓖 𝓡)))

@@ -1,0 +1,22 @@
+-- `lent::draw_str_u16_on` meets its contract: the surface is made of its parts, and passed to `draw_str_u16`. Assumes nothing.
+use contract.Running.{givenOf, tables, tablesOf}
+use denote.Triple.Spec.{tripleOf}
+use denote.Triple.Table.{entered, cited}
+use Rattle.lent.proofs.Drawings.{draws-text}
+use Rattle.lent.proofs.Operation.{OnSurface, both-say}
+use Rattle.lent.proofs.Walks.{together-meets}
+use Rattle.lent.proofs.draw_str_u16.Symbol as callee-def
+use Rattle.lent.proofs.draw_str_u16.Symbol.{name as #lent·draw-str-u16}
+use Rattle.lent.proofs.draw_str_u16.Met as callee-thm
+use Rattle.lent.proofs.draw_str_u16_on.Key.{name as #lent·draw-str-u16-on}
+use Rattle.lent.proofs.draw_str_u16_on as f
+use Rattle.lent.proofs.draw_str_u16_on.Statement as stated
+use Rattle.lent.proofs.draw_str_u16_on.Code as code
+
+pub draw-str-u16-on-spec : {M : Type 1} → stated.statement M
+unfolding code.routine tablesOf
+draw-str-u16-on-spec 𝓤 H 𝓜 𝓖 𝓡 =
+    entered 𝓤 H (tripleOf 𝓤 H (𝓖 .A) f.signature (f.spec 𝓤 H (𝓖 .A) (𝓜 .mem) (𝓡 .run)))
+    (tables 𝓤 H 𝓜 𝓡 code.env .C) (tables 𝓤 H 𝓜 𝓡 code.env .Λ) #lent·draw-str-u16-on code.function (code.unfolded 𝓤 H 𝓜 𝓡)
+    (together-meets 𝓤 H (𝓖 .A) (givenOf 𝓤 H 𝓜 𝓖) draws-text #lent·draw-str-u16 (tablesOf 𝓤 H 𝓜 (tables 𝓤 H 𝓜 𝓡 code.env)) (f.clauses 𝓤 H (𝓖 .A) (𝓜 .mem) (𝓡 .run)) (λ κs a g r zs answers leaves. both-say 𝓤 answers leaves)
+    (cited 𝓤 H (OnSurface 𝓤 H (𝓖 .A) draws-text) 𝓜 𝓡 code.env #lent·draw-str-u16 callee-def.routine code.calls-lent·draw-str-u16 (callee-thm.met 𝓤 H 𝓜 𝓖 𝓡)))

@@ -1,0 +1,22 @@
+-- `lent::fill_rect_rop_on` meets its contract: the surface is made of its parts, and passed to `fill_rect_rop`. Assumes nothing.
+use contract.Running.{givenOf, tables, tablesOf}
+use denote.Triple.Spec.{tripleOf}
+use denote.Triple.Table.{entered, cited}
+use Rattle.lent.proofs.Drawings.{fills-rop}
+use Rattle.lent.proofs.Operation.{OnSurface, both-say}
+use Rattle.lent.proofs.Walks.{together-meets}
+use Rattle.lent.proofs.fill_rect_rop.Symbol as callee-def
+use Rattle.lent.proofs.fill_rect_rop.Symbol.{name as #lent·fill-rect-rop}
+use Rattle.lent.proofs.fill_rect_rop.Met as callee-thm
+use Rattle.lent.proofs.fill_rect_rop_on.Key.{name as #lent·fill-rect-rop-on}
+use Rattle.lent.proofs.fill_rect_rop_on as f
+use Rattle.lent.proofs.fill_rect_rop_on.Statement as stated
+use Rattle.lent.proofs.fill_rect_rop_on.Code as code
+
+pub fill-rect-rop-on-spec : {M : Type 1} → stated.statement M
+unfolding code.routine tablesOf
+fill-rect-rop-on-spec 𝓤 H 𝓜 𝓖 𝓡 =
+    entered 𝓤 H (tripleOf 𝓤 H (𝓖 .A) f.signature (f.spec 𝓤 H (𝓖 .A) (𝓜 .mem) (𝓡 .run)))
+    (tables 𝓤 H 𝓜 𝓡 code.env .C) (tables 𝓤 H 𝓜 𝓡 code.env .Λ) #lent·fill-rect-rop-on code.function (code.unfolded 𝓤 H 𝓜 𝓡)
+    (together-meets 𝓤 H (𝓖 .A) (givenOf 𝓤 H 𝓜 𝓖) fills-rop #lent·fill-rect-rop (tablesOf 𝓤 H 𝓜 (tables 𝓤 H 𝓜 𝓡 code.env)) (f.clauses 𝓤 H (𝓖 .A) (𝓜 .mem) (𝓡 .run)) (λ κs a g r zs answers leaves. both-say 𝓤 answers leaves)
+    (cited 𝓤 H (OnSurface 𝓤 H (𝓖 .A) fills-rop) 𝓜 𝓡 code.env #lent·fill-rect-rop callee-def.routine code.calls-lent·fill-rect-rop (callee-thm.met 𝓤 H 𝓜 𝓖 𝓡)))

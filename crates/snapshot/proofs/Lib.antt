@@ -1,0 +1,5 @@
+pub mod P6
+pub mod Put
+pub mod Decimal
+pub mod Pixels
+pub mod Refusal

@@ -1,0 +1,148 @@
+/* The proved bench for hosts in C: GDI objects by handle, DCs, raster operations and an RGB565 panel.
+   Link libhost.a, which `rt staticlib host` writes.
+
+   A bench is RAVINEFORK_RECORD numbers and two memories, the panel's and the pixel store, all kept by the host and lent with
+   each call. The memories have the lengths that they had at open, must not overlap, and are kept by no function. What a function
+   cannot serve it refuses with a number, and then changes no number and no byte. */
+#ifndef RAVINEFORK_H
+#define RAVINEFORK_H
+
+#include <stddef.h>
+#include <stdint.h>
+
+#ifdef __cplusplus
+extern "C" {
+#endif
+
+/* A record: 9 numbers of the bench, 12 of the screen DC, and 14 for each of 256 slots. */
+#define RAVINEFORK_RECORD 3605
+#define RAVINEFORK_MAX_OBJECTS 256
+#define RAVINEFORK_MAX_SIDE 4096
+#define RAVINEFORK_MAX_MEMORY 33554432
+
+/* The bench's numbers. */
+#define RAVINEFORK_PANEL_LEN 0
+#define RAVINEFORK_STORE_LEN 1
+#define RAVINEFORK_WIDTH 2
+#define RAVINEFORK_HEIGHT 3
+#define RAVINEFORK_FRAME_COUNTER_LOW 4
+#define RAVINEFORK_FRAME_COUNTER_HIGH 5
+#define RAVINEFORK_NEXT_HANDLE 6
+#define RAVINEFORK_STOCK_DIRTY 7
+#define RAVINEFORK_COUNT 8
+
+/* Where the screen DC begins, and slot i: a handle, a kind and the object's 12 numbers. */
+#define RAVINEFORK_SCREEN 9
+#define RAVINEFORK_SLOT(i) (21 + 14 * (size_t)(i))
+
+/* Kinds. A DC's numbers are surface (0 screen, 1 memory), bitmap present (0 or 1), bitmap, brush, pen, font, brush colour, pen
+   colour, text colour, alignment, background colour, transparent (0 or 1). A bitmap's are width, height and dirty (0 or 1); a
+   brush's its colour; a pen's colour and width; a font's its height in two's complement. The others are 0. */
+#define RAVINEFORK_KIND_DC 0
+#define RAVINEFORK_KIND_BITMAP 1
+#define RAVINEFORK_KIND_BRUSH 2
+#define RAVINEFORK_KIND_PEN 3
+#define RAVINEFORK_KIND_FONT 4
+#define RAVINEFORK_NO_OBJECT 5
+
+/* Handles. */
+#define RAVINEFORK_GDI_HANDLE_BASE 0xDEAD1000u
+#define RAVINEFORK_GDI_SCREEN_DC 0xDEAD0DC0u
+#define RAVINEFORK_STOCK_WHITE_BRUSH 0xDEAD5701u
+#define RAVINEFORK_STOCK_LTGRAY_BRUSH 0xDEAD5702u
+#define RAVINEFORK_STOCK_GRAY_BRUSH 0xDEAD5703u
+#define RAVINEFORK_STOCK_BLACK_BRUSH 0xDEAD5704u
+#define RAVINEFORK_STOCK_NULL_BRUSH 0xDEAD5705u
+#define RAVINEFORK_STOCK_WHITE_PEN 0xDEAD5706u
+#define RAVINEFORK_STOCK_BLACK_PEN 0xDEAD5707u
+#define RAVINEFORK_STOCK_NULL_PEN 0xDEAD5708u
+#define RAVINEFORK_STOCK_DKGRAY_BRUSH 0xDEAD5709u
+#define RAVINEFORK_STOCK_SYSTEM_FONT 0xDEAD5710u
+#define RAVINEFORK_STOCK_DEFAULT_BITMAP 0xDEAD5720u
+
+/* Calls, and what each takes of a ravinefork_call. */
+#define RAVINEFORK_CREATE_MEMORY_DC 1
+#define RAVINEFORK_CREATE_COMPATIBLE_BITMAP 2 /* a width, b height */
+#define RAVINEFORK_CREATE_SOLID_BRUSH 3       /* a COLORREF */
+#define RAVINEFORK_CREATE_PEN 4               /* a COLORREF, b width */
+#define RAVINEFORK_CREATE_FONT 5              /* h height */
+#define RAVINEFORK_DELETE 6                   /* a handle */
+#define RAVINEFORK_REMOVE 7                   /* a handle */
+#define RAVINEFORK_SELECT_INTO 8              /* dc, a object's handle */
+#define RAVINEFORK_SET_TEXT_COLOR 9           /* dc, a COLORREF */
+#define RAVINEFORK_SET_TEXT_ALIGN 10          /* dc, a alignment */
+#define RAVINEFORK_SET_BK_COLOR 11            /* dc, a COLORREF */
+#define RAVINEFORK_SET_BK_MODE 12             /* dc, a 1 for transparent or 0 */
+#define RAVINEFORK_PATTERN_FILL 13            /* dc, x, y, w, h, a raster code */
+#define RAVINEFORK_RECTANGLE 14               /* dc, x, y, w, h */
+#define RAVINEFORK_TEXT 15                    /* dc, x, y, and the units */
+#define RAVINEFORK_PANEL_FILL 16              /* a RGB565 word */
+#define RAVINEFORK_RESIZE 17                  /* a width, b height */
+#define RAVINEFORK_BLIT 18                    /* dc, x, y, w, h, src source DC, src_x, src_y, a raster code */
+
+/* Refusals. */
+#define RAVINEFORK_NO_DC 1
+#define RAVINEFORK_NO_SURFACE 2
+#define RAVINEFORK_NO_SOURCE_DC 3
+#define RAVINEFORK_NO_SOURCE_SURFACE 4
+#define RAVINEFORK_TOO_MANY_OBJECTS 5
+#define RAVINEFORK_SIDE 6
+#define RAVINEFORK_TOO_SHORT 7
+#define RAVINEFORK_LENGTH 8
+#define RAVINEFORK_UNSOUND_RECORD 9
+#define RAVINEFORK_TEXT_TOO_LONG 10
+#define RAVINEFORK_NO_CALL 255
+
+/* A call. What it does not name is not looked at. */
+typedef struct ravinefork_call {
+    uint32_t call;
+    uint32_t dc;
+    uint32_t src;
+    uint32_t a;
+    uint32_t b;
+    int32_t x;
+    int32_t y;
+    int32_t w;
+    int32_t h;
+    int32_t src_x;
+    int32_t src_y;
+} ravinefork_call;
+
+/* An answer: the number of the refusal, 0 if there is none; a handle, COLORREF, alignment or advance; a flag, 0 or 1; a removed
+   object's kind and 12 numbers, RAVINEFORK_NO_OBJECT and zeros if there is none. */
+typedef struct ravinefork_reply {
+    uint32_t refusal;
+    uint32_t value;
+    uint32_t flag;
+    uint32_t kind;
+    uint32_t fields[12];
+} ravinefork_reply;
+
+/* Opens a bench with a panel of these sides. The number of the refusal, 0 if there is none. Refused with 6, 8 or 7, the record has
+   lengths and sides 0 and no object, which every call refuses with 9; with 9, for a numbers_len that is not RAVINEFORK_RECORD,
+   nothing changes. */
+uint32_t ravinefork_open(uint32_t *numbers, size_t numbers_len, uint8_t *panel, size_t panel_len, uint8_t *store,
+                         size_t store_len, uint32_t width, uint32_t height);
+
+/* Performs a call. The units are those of a text, and are not looked at otherwise. */
+ravinefork_reply ravinefork_perform(uint32_t *numbers, size_t numbers_len, ravinefork_call call, const uint16_t *units,
+                                    size_t units_len, uint8_t *panel, size_t panel_len, uint8_t *store, size_t store_len);
+
+/* Snapshots of the panel. They answer the number of the refusal, 0 if there is none; refused, they leave the output alone. */
+
+/* Red, green, blue and 255 for each pixel, row by row: 4 * width * height bytes. */
+uint32_t ravinefork_snapshot_rgba8888(const uint32_t *numbers, size_t numbers_len, const uint8_t *panel, size_t panel_len,
+                                      uint8_t *out, size_t out_len);
+
+/* A P6 picture of ravinefork_ppm_len bytes. */
+uint32_t ravinefork_snapshot_ppm(const uint32_t *numbers, size_t numbers_len, const uint8_t *panel, size_t panel_len,
+                                 uint8_t *out, size_t out_len);
+
+/* The length of a P6 picture of these sides; 0 for a side above 4,096. */
+size_t ravinefork_ppm_len(uint32_t width, uint32_t height);
+
+#ifdef __cplusplus
+}
+#endif
+
+#endif

@@ -1,0 +1,262 @@
+//! A bench: a record with its two memories.
+
+use crate::call;
+use crate::ffi::{HostCall, Reply};
+use crate::object::{Area, Colorref, GdiObject, Handle, Point, Rgb565};
+use crate::record::Record;
+use crate::refusal::Refusal;
+use crate::MAX_MEMORY;
+
+/// A record together with the panel memory and the pixel store. It owns the
+/// memories, or borrows them as a `Bench<&mut [u8]>`.
+///
+/// Each call is refused or does what it says; refused, it changes nothing. What
+/// can be read of the record, see [`Record`].
+#[derive(Clone, Debug)]
+pub struct Bench<M = Box<[u8]>> {
+    record: Record,
+    panel: M,
+    store: M,
+}
+
+impl Bench {
+    /// Opens a bench with new memories of these lengths. The panel takes
+    /// 2·width·height bytes of its memory; the store holds the stock bitmap in 2
+    /// bytes and each created bitmap in 2·width·height.
+    ///
+    /// Refused with 6, 8 or 7.
+    pub fn open(
+        width: u32,
+        height: u32,
+        panel_len: usize,
+        store_len: usize,
+    ) -> Result<Bench, Refusal> {
+        // One byte above the limit is as far above it as any number.
+        let memory = |len: usize| vec![0; len.min(MAX_MEMORY + 1)].into_boxed_slice();
+        Bench::open_on(width, height, memory(panel_len), memory(store_len))
+    }
+}
+
+impl<M: AsRef<[u8]> + AsMut<[u8]>> Bench<M> {
+    /// Opens a bench on these memories; as [`Bench::open`].
+    pub fn open_on(
+        width: u32,
+        height: u32,
+        mut panel: M,
+        mut store: M,
+    ) -> Result<Bench<M>, Refusal> {
+        let mut record = Record::new();
+        record.open(width, height, panel.as_mut(), store.as_mut())?;
+        Ok(Bench { record, panel, store })
+    }
+
+    /// The bench that a record and its memories are.
+    pub fn from_parts(record: Record, panel: M, store: M) -> Bench<M> {
+        Bench { record, panel, store }
+    }
+
+    /// The record, the panel memory and the store.
+    pub fn into_parts(self) -> (Record, M, M) {
+        (self.record, self.panel, self.store)
+    }
+
+    /// The record.
+    pub fn record(&self) -> &Record {
+        &self.record
+    }
+
+    /// The panel memory, whole.
+    pub fn panel(&self) -> &[u8] {
+        self.panel.as_ref()
+    }
+
+    /// The pixel store, whole.
+    pub fn store(&self) -> &[u8] {
+        self.store.as_ref()
+    }
+
+    /// The panel's pixels: rows follow each other, words are little-endian.
+    pub fn panel_pixels(&self) -> &[u8] {
+        self.panel().get(self.record.panel_place()).unwrap_or(&[])
+    }
+
+    /// A bitmap's pixels.
+    pub fn bitmap_pixels(&self, handle: Handle) -> Option<&[u8]> {
+        self.store().get(self.record.bitmap_place(handle)?)
+    }
+
+    /// The panel's width.
+    pub fn width(&self) -> u32 {
+        self.record.width()
+    }
+
+    /// The panel's height.
+    pub fn height(&self) -> u32 {
+        self.record.height()
+    }
+
+    /// The panel's dirty marks.
+    pub fn frame_counter(&self) -> u64 {
+        self.record.frame_counter()
+    }
+
+    /// The object of a handle, created or stock.
+    pub fn get(&self, handle: Handle) -> Option<GdiObject> {
+        self.record.get(handle)
+    }
+
+    /// Performs a call as numbers.
+    pub fn perform(&mut self, call: &HostCall, units: &[u16]) -> Reply {
+        self.record.perform(call, units, self.panel.as_mut(), self.store.as_mut())
+    }
+
+    /// Performs a call; its answer, if it is not refused.
+    fn ask(&mut self, call: HostCall, units: &[u16]) -> Result<Reply, Refusal> {
+        let reply = self.perform(&call, units);
+        Refusal::check(reply.refusal).map(|()| reply)
+    }
+
+    fn create(&mut self, call: HostCall) -> Result<Handle, Refusal> {
+        self.ask(call, &[]).map(|reply| Handle(reply.value))
+    }
+
+    fn draw(&mut self, call: HostCall) -> Result<(), Refusal> {
+        self.ask(call, &[]).map(|_| ())
+    }
+
+    /// Creates a memory DC, which has no surface before a bitmap is selected.
+    /// Refused with 5.
+    pub fn create_memory_dc(&mut self) -> Result<Handle, Refusal> {
+        self.create(HostCall { call: call::CREATE_MEMORY_DC, ..HostCall::default() })
+    }
+
+    /// Creates a black bitmap; a side of 0 becomes 1. Refused with 6, 5 or 7.
+    pub fn create_compatible_bitmap(&mut self, width: u32, height: u32) -> Result<Handle, Refusal> {
+        let call = call::CREATE_COMPATIBLE_BITMAP;
+        self.create(HostCall { call, a: width, b: height, ..HostCall::default() })
+    }
+
+    /// Creates a brush. Refused with 5.
+    pub fn create_solid_brush(&mut self, color: Colorref) -> Result<Handle, Refusal> {
+        self.create(HostCall { call: call::CREATE_SOLID_BRUSH, a: color.0, ..HostCall::default() })
+    }
+
+    /// Creates a pen. Refused with 5.
+    pub fn create_pen(&mut self, color: Colorref, width: u32) -> Result<Handle, Refusal> {
+        let call = call::CREATE_PEN;
+        self.create(HostCall { call, a: color.0, b: width, ..HostCall::default() })
+    }
+
+    /// Creates a font. Refused with 5.
+    pub fn create_font(&mut self, height: i32) -> Result<Handle, Refusal> {
+        self.create(HostCall { call: call::CREATE_FONT, h: height, ..HostCall::default() })
+    }
+
+    /// Deletes an object. Answers false for an absent handle, true for a stock
+    /// one, which stays. Bitmaps behind a deleted one move up in the store.
+    pub fn delete(&mut self, handle: Handle) -> Result<bool, Refusal> {
+        let call = HostCall { call: call::DELETE, a: handle.0, ..HostCall::default() };
+        self.ask(call, &[]).map(|reply| reply.flag == 1)
+    }
+
+    /// Removes an object and answers its record, none of an absent or a stock
+    /// one. Bitmaps behind it move up in the store.
+    pub fn remove(&mut self, handle: Handle) -> Result<Option<GdiObject>, Refusal> {
+        let call = HostCall { call: call::REMOVE, a: handle.0, ..HostCall::default() };
+        self.ask(call, &[]).map(|reply| reply.object())
+    }
+
+    /// Selects an object into a DC. Answers the previous handle of its kind,
+    /// [`Handle::STOCK_DEFAULT_BITMAP`] for a first bitmap; 0 if the object is
+    /// absent or a DC, or the DC is absent. Colours of a brush and a pen are
+    /// copied into the DC.
+    pub fn select_into(&mut self, dc: Handle, object: Handle) -> Result<Handle, Refusal> {
+        let call = call::SELECT_INTO;
+        self.create(HostCall { call, dc: dc.0, a: object.0, ..HostCall::default() })
+    }
+
+    /// Sets a DC's text colour; the old one. Refused with 1.
+    pub fn set_text_color(&mut self, dc: Handle, color: Colorref) -> Result<Colorref, Refusal> {
+        self.set(call::SET_TEXT_COLOR, dc, color.0).map(|reply| Colorref(reply.value))
+    }
+
+    /// Sets a DC's text alignment; the old one. Refused with 1.
+    pub fn set_text_align(&mut self, dc: Handle, align: u32) -> Result<u32, Refusal> {
+        self.set(call::SET_TEXT_ALIGN, dc, align).map(|reply| reply.value)
+    }
+
+    /// Sets a DC's background colour; the old one. Refused with 1.
+    pub fn set_bk_color(&mut self, dc: Handle, color: Colorref) -> Result<Colorref, Refusal> {
+        self.set(call::SET_BK_COLOR, dc, color.0).map(|reply| Colorref(reply.value))
+    }
+
+    /// Sets whether a DC's background is transparent; the old mode. Refused
+    /// with 1.
+    pub fn set_bk_mode(&mut self, dc: Handle, transparent: bool) -> Result<bool, Refusal> {
+        self.set(call::SET_BK_MODE, dc, transparent.into()).map(|reply| reply.flag == 1)
+    }
+
+    fn set(&mut self, call: u32, dc: Handle, a: u32) -> Result<Reply, Refusal> {
+        self.ask(HostCall { call, dc: dc.0, a, ..HostCall::default() }, &[])
+    }
+
+    /// Fills a box with the brush colour as the pattern, under a raster code of
+    /// [`rop3`](crate::rop3) or any other; the source operand is 0. Refused with
+    /// 1 or 2.
+    pub fn pattern_fill(&mut self, dc: Handle, area: Area, rop: u32) -> Result<(), Refusal> {
+        self.draw(HostCall { a: rop, ..on(call::PATTERN_FILL, dc, area) })
+    }
+
+    /// Fills a box with the brush, then outlines it with the pen. Refused with 1
+    /// or 2.
+    pub fn rectangle(&mut self, dc: Handle, area: Area) -> Result<(), Refusal> {
+        self.draw(on(call::RECTANGLE, dc, area))
+    }
+
+    /// Writes a text up to unit 0 or its end, ink only, in the text colour; its
+    /// advance, 6 for each unit. Refused with 1, 2 or 10.
+    pub fn text_out(&mut self, dc: Handle, at: Point, units: &[u16]) -> Result<u32, Refusal> {
+        let area = Area { x: at.x, y: at.y, w: 0, h: 0 };
+        self.ask(on(call::TEXT, dc, area), units).map(|reply| reply.value)
+    }
+
+    /// Fills the panel with one word.
+    pub fn panel_fill(&mut self, color: Rgb565) -> Result<(), Refusal> {
+        let a = color.0.into();
+        self.draw(HostCall { call: call::PANEL_FILL, a, ..HostCall::default() })
+    }
+
+    /// Gives the panel other sides and turns it black. With a side of 0 or the
+    /// present sides nothing happens. Refused with 6 or 7.
+    pub fn resize(&mut self, width: u32, height: u32) -> Result<(), Refusal> {
+        self.draw(HostCall { call: call::RESIZE, a: width, b: height, ..HostCall::default() })
+    }
+
+    /// Blits to a box from a place on a source DC, under a raster code; source
+    /// pixels are those before the call. Under a code that ignores the source it
+    /// is a pattern fill, and the source is not looked at. Refused with 1, 2, 3
+    /// or 4.
+    pub fn blit(
+        &mut self,
+        dc: Handle,
+        area: Area,
+        src: Handle,
+        from: Point,
+        rop: u32,
+    ) -> Result<(), Refusal> {
+        let call = on(call::BLIT, dc, area);
+        self.draw(HostCall { src: src.0, a: rop, src_x: from.x, src_y: from.y, ..call })
+    }
+}
+
+/// A drawing call on a DC.
+fn on(call: u32, dc: Handle, Area { x, y, w, h }: Area) -> HostCall {
+    HostCall { call, dc: dc.0, x, y, w, h, ..HostCall::default() }
+}
+
+impl Reply {
+    /// The removed object, if there is one.
+    pub fn object(&self) -> Option<GdiObject> {
+        GdiObject::of(self.kind, &self.fields)
+    }
+}

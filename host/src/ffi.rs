@@ -1,0 +1,104 @@
+//! The static library's functions. A slice goes as a pointer and a length. None
+//! of them asks anything of its caller but that these are a slice's.
+
+/// A call as numbers, by its number in [`crate::call`]. What a call does not
+/// name is not looked at.
+#[repr(C)]
+#[derive(Clone, Copy, Debug, Default, PartialEq, Eq)]
+pub struct HostCall {
+    /// Which call.
+    pub call: u32,
+    /// The handle of the DC that is set, selected into or drawn on.
+    pub dc: u32,
+    /// The handle of a blit's source DC.
+    pub src: u32,
+    /// A bitmap's or a panel's width, a colour, an object's handle, a setting or
+    /// a raster code.
+    pub a: u32,
+    /// A height, or a pen's width.
+    pub b: u32,
+    /// The left column.
+    pub x: i32,
+    /// The top row.
+    pub y: i32,
+    /// The width of what is drawn.
+    pub w: i32,
+    /// The height of what is drawn, or a font's.
+    pub h: i32,
+    /// The left column in a blit's source.
+    pub src_x: i32,
+    /// The top row in a blit's source.
+    pub src_y: i32,
+}
+
+/// An answer as numbers. Refused, it has its number, and nothing else.
+#[repr(C)]
+#[derive(Clone, Copy, Debug, PartialEq, Eq)]
+pub struct Reply {
+    /// The number of the refusal, 0 if there is none.
+    pub refusal: u32,
+    /// A handle, a COLORREF, an alignment, or a text's advance.
+    pub value: u32,
+    /// Whether it was deleted, or the old background mode: 0 or 1.
+    pub flag: u32,
+    /// A removed object's kind, as in a record; [`crate::NO_OBJECT`] if there is
+    /// none.
+    pub kind: u32,
+    /// A removed object's numbers, as in a record.
+    pub fields: [u32; 12],
+}
+
+#[rustfmt::skip]
+#[link(name = "host", kind = "static")]
+extern "C" {
+    fn ravinefork_open(numbers: *mut u32, numbers_len: usize, panel: *mut u8, panel_len: usize, store: *mut u8, store_len: usize, width: u32, height: u32) -> u32;
+    fn ravinefork_perform(numbers: *mut u32, numbers_len: usize, call: HostCall, units: *const u16, units_len: usize, panel: *mut u8, panel_len: usize, store: *mut u8, store_len: usize) -> Reply;
+}
+
+/// Opens a bench; the number of the refusal, 0 if there is none.
+pub(crate) fn open(
+    numbers: &mut [u32],
+    panel: &mut [u8],
+    store: &mut [u8],
+    width: u32,
+    height: u32,
+) -> u32 {
+    // SAFETY: each pointer and length is that of a slice, which the function has to itself until it
+    // returns; it keeps none of them.
+    unsafe {
+        ravinefork_open(
+            numbers.as_mut_ptr(),
+            numbers.len(),
+            panel.as_mut_ptr(),
+            panel.len(),
+            store.as_mut_ptr(),
+            store.len(),
+            width,
+            height,
+        )
+    }
+}
+
+/// Performs a call.
+pub(crate) fn perform(
+    numbers: &mut [u32],
+    call: HostCall,
+    units: &[u16],
+    panel: &mut [u8],
+    store: &mut [u8],
+) -> Reply {
+    // SAFETY: as in `open`; `units` is only read, and nothing writes to it meanwhile.
+    unsafe {
+        ravinefork_perform(
+            numbers.as_mut_ptr(),
+            numbers.len(),
+            call,
+            units.as_ptr(),
+            units.len(),
+            panel.as_mut_ptr(),
+            panel.len(),
+            store.as_mut_ptr(),
+            store.len(),
+        )
+    }
+}

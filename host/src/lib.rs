@@ -1,0 +1,73 @@
+//! The proved drawing core for hosts in Rust: GDI objects by handle, DCs, raster
+//! operations and the RGB565 panel, in the static library that `rt staticlib
+//! host` writes.
+//!
+//! A [`Bench`] holds a [`Record`], 3,605 numbers, with a panel memory and a pixel
+//! store, and makes the calls under the original's names. A host that keeps its
+//! own memories lends them to `Record::perform` instead. What an operation cannot
+//! serve it refuses with a number, a [`Refusal`], and changes nothing. No input
+//! makes it panic.
+//!
+//! ```
+//! use ravinefork::{Area, Bench, Colorref, Handle, Point};
+//!
+//! # fn main() -> Result<(), ravinefork::Refusal> {
+//! let screen = Handle::GDI_SCREEN_DC;
+//! let mut bench = Bench::open(240, 320, 2 * 240 * 320, 64 * 1024)?;
+//!
+//! let blue = bench.create_solid_brush(Colorref(0x00FF_0000))?;
+//! bench.select_into(screen, blue)?;
+//! bench.rectangle(screen, Area { x: 10, y: 20, w: 100, h: 30 })?;
+//!
+//! let units: Vec<u16> = "MODULE 6".encode_utf16().collect();
+//! bench.set_text_color(screen, Colorref(0x00FF_FFFF))?;
+//! let advance = bench.text_out(screen, Point { x: 16, y: 30 }, &units)?;
+//!
+//! assert_eq!(advance, 48);
+//! // A mark for the rectangle's fill, one for its outline, one for the text.
+//! assert_eq!(bench.frame_counter(), 3);
+//! // Next to the outline, in the row below it.
+//! let at = 2 * (240 * 21 + 11);
+//! assert_eq!(bench.panel()[at..at + 2], 0x001F_u16.to_le_bytes());
+//! # Ok(())
+//! # }
+//! ```
+
+#![deny(missing_docs, unsafe_code)]
+
+mod bench;
+pub mod call;
+#[allow(unsafe_code)]
+mod ffi;
+mod object;
+mod record;
+mod refusal;
+pub mod rop3;
+pub mod snapshot;
+
+pub use bench::Bench;
+pub use ffi::{HostCall, Reply};
+pub use object::{
+    Area, Bitmap, Brush, Colorref, Dc, DcSurface, Font, GdiObject, Handle, Pen, Point, Rgb565, Slot,
+};
+pub use record::Record;
+pub use refusal::Refusal;
+
+/// The numbers of a record.
+pub const RECORD: usize = 3605;
+/// Where the screen DC's numbers begin in a record.
+pub const SCREEN: usize = 9;
+/// Where the first slot's numbers begin in a record.
+pub const SLOTS: usize = 21;
+/// The numbers of a DC or an object.
+pub const DC: usize = 12;
+/// The numbers of a slot: a handle, a kind, and those of the object.
+pub const SLOT: usize = 14;
+/// As many created objects a record can hold.
+pub const MAX_OBJECTS: usize = 256;
+/// The kind in a reply that has no object.
+pub const NO_OBJECT: u32 = 5;
+/// The longest side.
+pub const MAX_SIDE: u32 = 4096;
+/// The length of the longest memory.
+pub const MAX_MEMORY: usize = 33_554_432;

@@ -1,0 +1,157 @@
+//! Any numbers at all as record, call and lengths: no fault, no byte outside the
+//! lent memories touched, a refused call changes nothing, and an accepted one
+//! leaves a record that calls accept.
+
+use ravinefork::{call, Bench, Colorref, Handle, HostCall, Record, Refusal, MAX_SIDE};
+
+/// Rounds, and calls on each record.
+const ROUNDS: u32 = 400;
+const CALLS: u32 = 60;
+
+/// Bytes around each lent memory.
+const AROUND: usize = 64;
+
+/// Random numbers, the same on every run.
+struct Random(u64);
+
+impl Random {
+    fn below(&mut self, n: u32) -> u32 {
+        self.0 = self.0.wrapping_mul(6_364_136_223_846_793_005).wrapping_add(1);
+        ((self.0 >> 33) % u64::from(n)) as u32
+    }
+
+    fn of<T: Copy>(&mut self, all: &[T]) -> T {
+        all[self.below(all.len() as u32) as usize]
+    }
+
+    /// A handle, side, flag, colour or anything else.
+    fn number(&mut self) -> u32 {
+        match self.below(6) {
+            0 => self.below(12),
+            1 => Handle::GDI_HANDLE_BASE.0 + self.below(12),
+            2 => Handle::STOCK_WHITE_BRUSH.0 + self.below(34),
+            3 => self.of(&[Handle::GDI_SCREEN_DC.0, MAX_SIDE, MAX_SIDE + 1, 256, 257, u32::MAX]),
+            4 => self.below(u32::MAX),
+            _ => self.below(40),
+        }
+    }
+
+    fn coordinate(&mut self) -> i32 {
+        match self.below(8) {
+            0 => self.of(&[i32::MIN, i32::MIN + 1, -1, i32::MAX - 1, i32::MAX]),
+            1 => self.number() as i32,
+            _ => self.below(40) as i32 - 12,
+        }
+    }
+
+    fn call(&mut self) -> HostCall {
+        let call = match self.below(40) {
+            0 => self.number(),
+            _ => 1 + self.below(call::BLIT),
+        };
+        let dcs = [Handle::GDI_SCREEN_DC.0, Handle::GDI_HANDLE_BASE.0, self.number()];
+        let a = match call {
+            call::PATTERN_FILL | call::BLIT => self.below(256) << 16,
+            call::SET_BK_MODE => self.below(3),
+            call::PANEL_FILL => self.below(0x1_1000),
+            call::DELETE | call::REMOVE if self.below(3) > 0 => 0,
+            _ => self.number(),
+        };
+        HostCall {
+            call,
+            dc: self.of(&dcs),
+            src: self.of(&dcs),
+            a,
+            b: self.number(),
+            x: self.coordinate(),
+            y: self.coordinate(),
+            w: self.coordinate(),
+            h: self.coordinate(),
+            src_x: self.coordinate(),
+            src_y: self.coordinate(),
+        }
+    }
+}
+
+/// A bench with a few objects, as numbers and memories.
+fn bench(random: &mut Random) -> Result<(Record, Vec<u8>, Vec<u8>), Refusal> {
+    let (width, height) = (1 + random.below(30), 1 + random.below(30));
+    let panel_len = (2 * width * height + random.below(900)) as usize;
+    let store_len = (2 + random.below(3000)) as usize;
+    let mut bench = Bench::open(width, height, panel_len, store_len)?;
+    let dc = bench.create_memory_dc()?;
+    for _ in 0..random.below(8) {
+        match random.below(5) {
+            0 => _ = bench.create_memory_dc()?,
+            1 => _ = bench.create_solid_brush(Colorref(random.number()))?,
+            2 => _ = bench.create_pen(Colorref(random.number()), 1)?,
+            3 => _ = bench.create_font(random.coordinate())?,
+            _ => {
+                // It may not fit.
+                if let Ok(bitmap) =
+                    bench.create_compatible_bitmap(random.below(20), random.below(20))
+                {
+                    bench.select_into(dc, bitmap)?;
+                }
+            }
+        }
+    }
+    let (record, panel, store) = bench.into_parts();
+    Ok((record, panel.into(), store.into()))
+}
+
+/// Memory within bytes that nothing may touch.
+fn guarded(memory: &[u8]) -> Vec<u8> {
+    [&[0x77; AROUND], memory, &[0x77; AROUND]].concat()
+}
+
+fn inner(memory: &mut [u8]) -> &mut [u8] {
+    let end = memory.len() - AROUND;
+    &mut memory[AROUND..end]
+}
+
+fn is_guarded(memory: &[u8]) -> bool {
+    let around = [&memory[..AROUND], &memory[memory.len() - AROUND..]];
+    around.concat().iter().all(|&byte| byte == 0x77)
+}
+
+#[test]
+fn any_numbers() {
+    let mut random = Random(1);
+    let mut counts = std::collections::BTreeMap::new();
+    for _ in 0..ROUNDS {
+        let (mut record, panel, store) = bench(&mut random).expect("a bench");
+        let (mut panel, mut store) = (guarded(&panel), guarded(&store));
+        for _ in 0..CALLS {
+            let mut numbers = record.as_numbers().to_vec();
+            if random.below(4) == 0 {
+                for _ in 0..=random.below(2) {
+                    let at = random.of(&[9, 21, 35, 120]);
+                    numbers[random.below(at) as usize] = random.number();
+                }
+            }
+            let units: Vec<u16> = (0..random.below(9)).map(|_| random.below(160) as u16).collect();
+            let host = random.call();
+            let before = (panel.clone(), store.clone());
+            let mut after = Record::from_numbers(numbers.as_slice());
+            let (lent_panel, lent_store) = (inner(&mut panel), inner(&mut store));
+            let reply = after.perform(&host, &units, lent_panel, lent_store);
+            *counts.entry(reply.refusal).or_insert(0) += 1;
+            assert!(is_guarded(&panel) && is_guarded(&store), "{host:?}");
+            if reply.refusal != 0 {
+                assert!(after.as_numbers() == numbers, "{host:?}, {reply:?}");
+                assert!((&panel, &store) == (&before.0, &before.1), "{host:?}, {reply:?}");
+            } else {
+                let look = HostCall { call: call::DELETE, ..HostCall::default() };
+                let lent = (inner(&mut panel), inner(&mut store));
+                let reply = after.clone().perform(&look, &[], lent.0, lent.1);
+                assert_eq!((reply.refusal, reply.flag), (0, 0), "after {host:?}");
+                assert_eq!(after.slots().count(), after.count());
+                record = after;
+            }
+        }
+    }
+    println!("{counts:?}");
+    let all = [0, 1, 2, 3, 4, 6, 7, 8, 9, 255];
+    assert!(all.iter().all(|number| counts.contains_key(number)), "{counts:?}");
+}

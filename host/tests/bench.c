@@ -1,0 +1,68 @@
+/* Opens a bench, draws on it and prints what it came to. The header's structs must be laid out as the Rust declarations, which
+   come as LAYOUT: a size or an offset each. */
+#include "ravinefork.h"
+
+#include <stdio.h>
+#include <stdlib.h>
+
+#define AT(type, field, offset) _Static_assert(offsetof(type, field) == (offset), #field);
+#define SIZE(type, size) _Static_assert(sizeof(type) == (size), #type);
+LAYOUT
+
+static uint32_t numbers[RAVINEFORK_RECORD];
+static uint8_t panel[2 * 24 * 16];
+static uint8_t store[64];
+
+static ravinefork_reply perform(ravinefork_call call, const uint16_t *units, size_t units_len) {
+    return ravinefork_perform(numbers, RAVINEFORK_RECORD, call, units, units_len, panel, sizeof panel, store, sizeof store);
+}
+
+/* Performs a call that must be accepted. */
+static ravinefork_reply accepted(ravinefork_call call, const uint16_t *units, size_t units_len) {
+    ravinefork_reply reply = perform(call, units, units_len);
+    if (reply.refusal != 0) {
+        printf("call %u refused with %u\n", (unsigned)call.call, (unsigned)reply.refusal);
+        exit(1);
+    }
+    return reply;
+}
+
+int main(void) {
+    const uint32_t screen = RAVINEFORK_GDI_SCREEN_DC;
+    printf("open %u\n", (unsigned)ravinefork_open(numbers, RAVINEFORK_RECORD - 1, NULL, 0, NULL, 0, 24, 16));
+    printf("open %u\n", (unsigned)ravinefork_open(numbers, RAVINEFORK_RECORD, panel, sizeof panel, store, sizeof store, 24, 16));
+
+    uint32_t pen = accepted((ravinefork_call){.call = RAVINEFORK_CREATE_PEN, .a = 0x000000FF, .b = 3}, NULL, 0).value;
+    printf("pen %08x\n", (unsigned)pen);
+    uint32_t old = accepted((ravinefork_call){.call = RAVINEFORK_SELECT_INTO, .dc = screen, .a = pen}, NULL, 0).value;
+    printf("before it %08x\n", (unsigned)old);
+    accepted((ravinefork_call){.call = RAVINEFORK_RECTANGLE, .dc = screen, .x = 1, .y = 1, .w = 22, .h = 14}, NULL, 0);
+    const uint16_t units[] = {'C', '1', '1', 0, '?'};
+    ravinefork_call text = {.call = RAVINEFORK_TEXT, .dc = screen, .x = 4, .y = 4};
+    printf("advance %u\n", (unsigned)accepted(text, units, sizeof units / sizeof *units).value);
+    ravinefork_call blit = {.call = RAVINEFORK_BLIT, .dc = screen, .src = screen, .a = 0x00CC0020, .x = -1, .y = 12};
+    blit.w = 9, blit.h = 9, blit.src_x = 3, blit.src_y = 4;
+    accepted(blit, NULL, 0);
+
+    ravinefork_reply removed = accepted((ravinefork_call){.call = RAVINEFORK_REMOVE, .a = pen}, NULL, 0);
+    printf("removed %u: %08x %u\n", (unsigned)removed.kind, (unsigned)removed.fields[0], (unsigned)removed.fields[1]);
+    printf("no DC %u\n", (unsigned)perform((ravinefork_call){.call = RAVINEFORK_RECTANGLE}, NULL, 0).refusal);
+    printf("no call %u\n", (unsigned)perform((ravinefork_call){.call = 19}, NULL, 0).refusal);
+    printf("no text %u\n", (unsigned)accepted(text, NULL, 0).value);
+    printf("no memory %u\n",
+           (unsigned)ravinefork_perform(numbers, RAVINEFORK_RECORD, text, NULL, 0, NULL, 0, NULL, 0).refusal);
+    numbers[RAVINEFORK_COUNT] = 257;
+    printf("no record %u\n", (unsigned)perform(blit, NULL, 0).refusal);
+    numbers[RAVINEFORK_COUNT] = 0;
+    printf("frames %u\n", (unsigned)numbers[RAVINEFORK_FRAME_COUNTER_LOW]);
+
+    for (size_t y = 0; y < 16; y++) {
+        for (size_t x = 0; x < 24; x++) {
+            const uint8_t *pixel = panel + 2 * (24 * y + x);
+            unsigned word = pixel[0] | (unsigned)pixel[1] << 8;
+            putchar(word == 0xFFFF ? '.' : word == 0xF800 ? 'r' : word == 0 ? '#' : '?');
+        }
+        putchar('\n');
+    }
+    return 0;
+}

@@ -1,0 +1,113 @@
+//! The committed records, as in docs/record-cases.md: every call refuses each as
+//! the specification's list says, and a refused call changes nothing.
+
+use std::fs;
+
+use ravinefork::{call, Handle, HostCall, Record, DC, RECORD, SCREEN, SLOT, SLOTS};
+
+const FOLDER: &str = concat!(env!("CARGO_MANIFEST_DIR"), "/../crates/records");
+
+/// Takes numbers off the front of the stream.
+struct Stream<'a>(&'a [u8]);
+
+impl Stream<'_> {
+    fn number(&mut self, bytes: usize) -> u64 {
+        let (number, rest) = self.0.split_at(bytes);
+        self.0 = rest;
+        number.iter().fold(0, |all, &byte| all << 8 | u64::from(byte))
+    }
+
+    /// A number of the record, none if it has more than 32 bits.
+    fn wide(&mut self) -> Option<u32> {
+        self.number(8).try_into().ok()
+    }
+
+    fn word(&mut self) -> u32 {
+        self.number(4) as u32
+    }
+
+    /// A handle, a kind and the object's numbers.
+    fn slot(&mut self) -> [u32; SLOT] {
+        let mut slot = [0; SLOT];
+        slot[0] = self.word();
+        slot[1] = self.number(1) as u32;
+        let bytes: &[usize] = match slot[1] {
+            0 => &[1, 1, 4, 4, 4, 4, 4, 4, 4, 4, 4, 1],
+            1 => &[4, 4, 1],
+            3 => &[4, 4],
+            _ => &[4],
+        };
+        for (field, &bytes) in slot[2..].iter_mut().zip(bytes) {
+            *field = self.number(bytes) as u32;
+        }
+        if slot[1] == 0 && slot[3] == 0 {
+            slot[4] = 0;
+        }
+        slot
+    }
+
+    /// A record's numbers and the lent lengths; no numbers if they have more
+    /// than 32 bits.
+    fn record(&mut self) -> (Option<Vec<u32>>, [usize; 2]) {
+        let lengths = [self.wide(), self.wide()];
+        let sides = [self.word(), self.word()];
+        let frames = self.number(8);
+        let (next, stock, count) = (self.word(), self.number(1) as u32, self.wide());
+        let slots: Vec<_> = (0..self.number(2)).map(|_| self.slot()).collect();
+        let lent = [self.word(), self.word()].map(|len| len as usize);
+        let numbers = (|| {
+            let frames = [frames as u32, (frames >> 32) as u32];
+            let mut numbers = vec![lengths[0]?, lengths[1]?, sides[0], sides[1]];
+            numbers.extend([frames[0], frames[1], next, stock, count?]);
+            numbers.extend(screen());
+            numbers.extend(slots.concat());
+            // Vacant slots: handle 0, a brush of colour 0.
+            let vacant = (0..SLOT).map(|i| if i == 1 { 2 } else { 0 }).cycle();
+            numbers.extend(vacant.take(RECORD - numbers.len()));
+            Some(numbers)
+        })();
+        (numbers, lent)
+    }
+}
+
+/// The screen DC of a fresh bench.
+fn screen() -> [u32; DC] {
+    let mut record = Record::new();
+    record.open(1, 1, &mut [0; 2], &mut [0; 2]).expect("a bench");
+    record.as_numbers()[SCREEN..SLOTS].try_into().expect("twelve numbers")
+}
+
+#[test]
+fn the_sample() {
+    let bytes = fs::read(format!("{FOLDER}/stdin")).expect("the records");
+    let lines = fs::read_to_string(format!("{FOLDER}/stdout")).expect("their lines");
+    let mut stream = Stream(bytes.strip_prefix(b"REC1").expect("records"));
+    let (mut tried, mut wide) = (0, 0);
+    for (i, line) in lines.lines().enumerate() {
+        let (numbers, [panel_len, store_len]) = stream.record();
+        let number = line.strip_prefix(&format!("record {i} ")).expect("the record's line");
+        let Some(numbers) = numbers else {
+            assert_eq!(number, "9", "{line}: a number of over 32 bits");
+            wide += 1;
+            continue;
+        };
+        let memories = [vec![0x5A; panel_len], vec![0xA5; store_len]];
+        for call in call::CREATE_MEMORY_DC..=call::BLIT {
+            let dc = Handle::GDI_SCREEN_DC.0;
+            let call =
+                HostCall { call, dc, src: dc, a: 1, b: 1, w: 9, h: 9, ..HostCall::default() };
+            let mut record = Record::from_numbers(numbers.as_slice());
+            let [mut panel, mut store] = memories.clone();
+            let reply = record.perform(&call, &[0x41], &mut panel, &mut store);
+            let refusal = if matches!(reply.refusal, 8 | 9) { reply.refusal } else { 0 };
+            assert_eq!(refusal.to_string(), number, "{line}: {call:?}");
+            if reply.refusal != 0 {
+                assert!(record.as_numbers() == numbers, "{line}: {call:?} changed the record");
+                assert!([panel, store] == memories, "{line}: {call:?} changed a memory");
+            }
+        }
+        tried += 1;
+    }
+    assert!(stream.0.is_empty());
+    println!("{tried} records, {wide} with numbers of over 32 bits");
+}

@@ -1,0 +1,472 @@
+//! What is refused, with which number, and that it changes nothing; and what the
+//! accessors read.
+
+use pocket_kernel::gdi::{self, GdiState};
+use ravinefork::{
+    call, rop3, Area, Bench, Bitmap, Brush, Colorref, Dc, DcSurface, Font, GdiObject, Handle,
+    HostCall, Pen, Point, Record, Refusal, Reply, Rgb565, Slot, MAX_MEMORY, RECORD, SLOT, SLOTS,
+};
+
+const SCREEN_DC: Handle = Handle::GDI_SCREEN_DC;
+const AREA: Area = Area { x: 0, y: 0, w: 2, h: 2 };
+const AT: Point = Point { x: 0, y: 0 };
+
+/// A panel of 4 by 3 in 30 bytes, a store of 64, an object of each kind: a DC
+/// with a bitmap, a brush, a pen, a font.
+fn bench() -> (Bench, [Handle; 5]) {
+    let mut bench = Bench::open(4, 3, 30, 64).expect("a bench");
+    let handles = [
+        bench.create_memory_dc(),
+        bench.create_compatible_bitmap(3, 5),
+        bench.create_solid_brush(Colorref(0x0012_3456)),
+        bench.create_pen(Colorref(0x00AB_CDEF), 7),
+        bench.create_font(-9),
+    ]
+    .map(|made| made.expect("an object"));
+    bench.select_into(handles[0], handles[1]).expect("a selection");
+    (bench, handles)
+}
+
+/// A call of every kind.
+fn calls() -> Vec<HostCall> {
+    let dc = SCREEN_DC.0;
+    let of = |call| HostCall { call, dc, src: dc, a: 1, b: 1, w: 2, h: 2, ..HostCall::default() };
+    (call::CREATE_MEMORY_DC..=call::BLIT).map(of).collect()
+}
+
+fn refused(number: u32) -> Reply {
+    Reply { refusal: number, value: 0, flag: 0, kind: 5, fields: [0; 12] }
+}
+
+/// Every call on these numbers is refused with the number and changes nothing.
+fn all_refused(numbers: &[u32], number: u32, of: &str) {
+    let lens = [30, 64].map(|len| (0..len).collect::<Vec<u8>>());
+    for call in calls() {
+        let mut record = Record::from_numbers(numbers);
+        let [mut panel, mut store] = lens.clone();
+        let reply = record.perform(&call, &[0x41], &mut panel, &mut store);
+        assert_eq!(reply, refused(number), "{of}: {call:?}");
+        assert_eq!(record.as_numbers(), numbers, "{of}: {call:?}");
+        assert_eq!([panel, store], lens, "{of}: {call:?}");
+    }
+}
+
+/// The accessors, which must not panic whatever the numbers are.
+fn read_all(record: &Record) {
+    for handle in (0..300).map(|i| Handle(Handle::GDI_HANDLE_BASE.0.wrapping_add(i))) {
+        _ = (record.get(handle), record.dc(handle), record.bitmap_place(handle));
+    }
+    _ = (record.panel_place(), record.bitmap(Handle::STOCK_DEFAULT_BITMAP));
+    _ = format!("{record:?}");
+    let lent: Bench<Vec<u8>> = Bench::from_parts(record.clone(), vec![0; 3], vec![0; 1]);
+    _ = (lent.panel_pixels(), lent.bitmap_pixels(Handle::GDI_HANDLE_BASE));
+}
+
+#[test]
+fn numbers_that_are_no_record() {
+    let (bench, _) = bench();
+    let good = bench.record().as_numbers().to_vec();
+    let wrong = |changes: &[(usize, u32)], number, of: &str| {
+        let mut numbers = good.clone();
+        changes.iter().for_each(|&(i, n)| numbers[i] = n);
+        all_refused(&numbers, number, of);
+        read_all(&Record::from_numbers(numbers));
+    };
+    for len in [0, 1, 8, 20, 21, RECORD - 1] {
+        all_refused(&good[..len], 9, "too few numbers");
+        read_all(&Record::from_numbers(&good[..len]));
+    }
+    all_refused(&[good.as_slice(), &[0]].concat(), 9, "a number too many");
+    for flag in [2, u32::MAX] {
+        wrong(&[(7, flag)], 9, "the stock bitmap's mark");
+        wrong(&[(9, flag)], 9, "the screen DC's surface");
+        wrong(&[(10, flag)], 9, "the screen DC's bitmap");
+        wrong(&[(20, flag)], 9, "the screen DC's mode");
+        wrong(&[(SLOTS + 2, flag)], 9, "a DC's surface");
+        wrong(&[(SLOTS + 3, flag)], 9, "a DC's bitmap");
+        wrong(&[(SLOTS + 13, flag)], 9, "a DC's mode");
+        wrong(&[(SLOTS + SLOT + 4, flag)], 9, "a bitmap's mark");
+    }
+    wrong(&[(11, 1)], 9, "the handle of a bitmap that is absent");
+    for count in [257, 258, u32::MAX] {
+        wrong(&[(8, count)], 9, "the count");
+    }
+    for slot in 0..5 {
+        for kind in [5, 6, 256, u32::MAX] {
+            wrong(&[(SLOTS + SLOT * slot + 1, kind)], 9, "the kind");
+        }
+    }
+    // The first number past a bitmap's, a brush's, a pen's and a font's, to the last.
+    for (slot, fields) in [(1, 3), (2, 1), (3, 2), (4, 1)] {
+        for past in fields..12 {
+            wrong(&[(SLOTS + SLOT * slot + 2 + past, 1)], 9, "a number past the fields");
+        }
+    }
+}
+
+#[test]
+fn records_that_are_unsound() {
+    let (bench, [_, bitmap, ..]) = bench();
+    let good = bench.record().as_numbers().to_vec();
+    let slot = |i| SLOTS + SLOT * i;
+    let cases = [
+        (0, MAX_MEMORY as u32 + 1, "panel memory above the limit"),
+        (0, 23, "panel memory too short"),
+        (1, MAX_MEMORY as u32 + 1, "store above the limit"),
+        (1, 31, "store too short"),
+        (2, 0, "panel width"),
+        (2, 4097, "panel width"),
+        (3, 0, "panel height"),
+        (3, u32::MAX, "panel height"),
+        (8, 6, "a vacant slot counted"),
+        (slot(0), 0, "handle 0"),
+        (slot(0), bitmap.0, "a handle that two have"),
+        (slot(4), Handle::STOCK_NULL_PEN.0, "a stock handle"),
+        (slot(0) + 2, 0, "a created screen DC"),
+        (slot(1) + 2, 0, "a bitmap's width"),
+        (slot(1) + 3, 4097, "a bitmap's height"),
+    ];
+    for (i, number, of) in cases {
+        let mut numbers = good.clone();
+        numbers[i] = number;
+        all_refused(&numbers, 9, of);
+        read_all(&Record::from_numbers(numbers));
+    }
+    all_refused(&vec![0; RECORD], 9, "zeros");
+    all_refused(&vec![u32::MAX; RECORD], 9, "ones");
+    read_all(&Record::from_numbers(vec![u32::MAX; RECORD]));
+    // Past the last object anything may stand.
+    let mut numbers = good;
+    numbers[slot(5)..].fill(u32::MAX);
+    let mut record = Record::from_numbers(numbers);
+    let reply = record.perform(&calls()[0], &[], &mut [0; 30], &mut [0; 64]);
+    assert_eq!(reply, Reply { value: Handle::GDI_HANDLE_BASE.0 + 5, ..refused(0) });
+    assert_eq!(record.count(), 6);
+}
+
+#[test]
+fn numbers_that_are_no_call() {
+    let (bench, _) = bench();
+    let of = |call, a| HostCall { call, dc: SCREEN_DC.0, a, ..HostCall::default() };
+    let none = [of(0, 0), of(19, 0), of(255, 0), of(u32::MAX, 0), of(call::SET_BK_MODE, 2)];
+    let more = [of(call::SET_BK_MODE, u32::MAX), of(call::PANEL_FILL, 0x1_0000)];
+    for call in none.into_iter().chain(more).chain([of(call::PANEL_FILL, u32::MAX)]) {
+        let mut after = bench.clone();
+        assert_eq!(after.perform(&call, &[]), refused(255), "{call:?}");
+        assert_eq!(after.record(), bench.record());
+        assert_eq!((after.panel(), after.store()), (bench.panel(), bench.store()));
+        // It is not looked at whether the numbers are a record.
+        let mut record = Record::from_numbers([]);
+        assert_eq!(record.perform(&call, &[], &mut [], &mut []), refused(255));
+    }
+}
+
+#[test]
+fn memories_of_another_length() {
+    let (bench, _) = bench();
+    let numbers = bench.record().as_numbers();
+    for (panel_len, store_len) in [(29, 64), (31, 64), (30, 63), (30, 65), (0, 0), (64, 30)] {
+        for call in calls() {
+            let mut record = bench.record().clone();
+            let (mut panel, mut store) = (vec![0x5A; panel_len], vec![0xA5; store_len]);
+            let reply = record.perform(&call, &[0x41], &mut panel, &mut store);
+            assert_eq!(reply, refused(8), "{call:?}");
+            assert_eq!(record.as_numbers(), numbers);
+            assert!(panel.iter().all(|&byte| byte == 0x5A));
+            assert!(store.iter().all(|&byte| byte == 0xA5));
+        }
+    }
+}
+
+#[test]
+fn open() {
+    let refusal = |w, h, panel, store| Bench::open(w, h, panel, store).err();
+    assert_eq!(refusal(4, 3, 24, 2), None);
+    assert_eq!(refusal(4096, 1, 8192, 2), None);
+    assert_eq!(refusal(1, 1, MAX_MEMORY, MAX_MEMORY), None);
+    for (w, h) in [(0, 1), (1, 0), (4097, 1), (1, 4097), (u32::MAX, u32::MAX)] {
+        assert_eq!(refusal(w, h, 64, 64), Some(Refusal::SIDE));
+        assert_eq!(refusal(w, h, usize::MAX, usize::MAX), Some(Refusal::SIDE));
+    }
+    for (panel, store) in [(MAX_MEMORY + 1, 0), (0, MAX_MEMORY + 1), (usize::MAX, usize::MAX)] {
+        assert_eq!(refusal(4, 3, panel, store), Some(Refusal::LENGTH));
+    }
+    for (panel, store) in [(23, 2), (24, 1), (0, 0)] {
+        assert_eq!(refusal(4, 3, panel, store), Some(Refusal::TOO_SHORT));
+    }
+}
+
+#[test]
+fn a_refused_open_leaves_a_record_without_a_bench() {
+    let (mut panel, mut store) = ([0x5A; 23], [0xA5; 4]);
+    let mut record = Record::from_numbers(vec![7; RECORD]);
+    assert_eq!(record.open(4, 3, &mut panel, &mut store), Err(Refusal::TOO_SHORT));
+    assert_eq!((panel, store), ([0x5A; 23], [0xA5; 4]));
+    assert_eq!((record.panel_len(), record.store_len()), (0, 0));
+    assert_eq!((record.width(), record.height(), record.count()), (0, 0, 0));
+    assert_eq!((record.frame_counter(), record.next_handle()), (0, Handle::GDI_HANDLE_BASE));
+    all_refused(record.as_numbers(), 9, "after a refused open");
+    for len in [0, RECORD - 1, RECORD + 1] {
+        let mut record = Record::from_numbers(vec![7; len]);
+        assert_eq!(record.open(1, 1, &mut panel, &mut store), Err(Refusal::UNSOUND_RECORD));
+        assert_eq!(record.as_numbers(), vec![7; len]);
+        assert_eq!((panel, store), ([0x5A; 23], [0xA5; 4]));
+    }
+}
+
+#[test]
+fn an_accepted_open_blackens_the_panel_and_the_stock_pixel_only() {
+    let (mut panel, mut store) = ([0x5A; 30], [0xA5; 4]);
+    let bench = Bench::open_on(4, 3, panel.as_mut_slice(), store.as_mut_slice()).expect("a bench");
+    assert_eq!(bench.panel_pixels(), [0; 24]);
+    assert_eq!(bench.bitmap_pixels(Handle::STOCK_DEFAULT_BITMAP), Some([0; 2].as_slice()));
+    assert_eq!(panel[24..], [0x5A; 6]);
+    assert_eq!(store, [0, 0, 0xA5, 0xA5]);
+}
+
+#[test]
+fn each_refusal_of_a_call() {
+    let (mut bench, [dc, bitmap, brush, ..]) = bench();
+    let bare = bench.create_memory_dc().expect("a DC");
+    let before = bench.clone();
+    let none = Handle(1);
+    // 1: no such DC.
+    for handle in [none, Handle(0), bitmap, brush, Handle::STOCK_DEFAULT_BITMAP] {
+        assert_eq!(bench.set_text_color(handle, Colorref(1)), Err(Refusal::NO_DC));
+        assert_eq!(bench.set_text_align(handle, 1), Err(Refusal::NO_DC));
+        assert_eq!(bench.set_bk_color(handle, Colorref(1)), Err(Refusal::NO_DC));
+        assert_eq!(bench.set_bk_mode(handle, true), Err(Refusal::NO_DC));
+        assert_eq!(bench.pattern_fill(handle, AREA, rop3::PATCOPY), Err(Refusal::NO_DC));
+        assert_eq!(bench.rectangle(handle, AREA), Err(Refusal::NO_DC));
+        assert_eq!(bench.text_out(handle, AT, &[0x41]), Err(Refusal::NO_DC));
+        assert_eq!(bench.blit(handle, AREA, none, AT, rop3::SRCCOPY), Err(Refusal::NO_DC));
+    }
+    // 2: no surface.
+    assert_eq!(bench.pattern_fill(bare, AREA, rop3::PATCOPY), Err(Refusal::NO_SURFACE));
+    assert_eq!(bench.rectangle(bare, AREA), Err(Refusal::NO_SURFACE));
+    assert_eq!(bench.text_out(bare, AT, &[0x41; 65_536]), Err(Refusal::NO_SURFACE));
+    assert_eq!(bench.blit(bare, AREA, none, AT, rop3::SRCCOPY), Err(Refusal::NO_SURFACE));
+    // 3 and 4: the same for the source, unless the code ignores it.
+    let source = bench.blit(dc, AREA, none, AT, rop3::SRCCOPY);
+    assert_eq!(source, Err(Refusal::NO_SOURCE_DC));
+    let source = bench.blit(dc, AREA, bare, AT, rop3::SRCCOPY);
+    assert_eq!(source, Err(Refusal::NO_SOURCE_SURFACE));
+    assert_eq!(bench.clone().blit(dc, AREA, none, AT, rop3::PATINVERT), Ok(()));
+    // 6, and 7 with 32 of 64 bytes taken.
+    assert_eq!(bench.create_compatible_bitmap(4097, 0), Err(Refusal::SIDE));
+    assert_eq!(bench.create_compatible_bitmap(1, u32::MAX), Err(Refusal::SIDE));
+    assert_eq!(bench.create_compatible_bitmap(1, 17), Err(Refusal::TOO_SHORT));
+    assert_eq!(bench.resize(4097, 1), Err(Refusal::SIDE));
+    assert_eq!(bench.resize(4, 4), Err(Refusal::TOO_SHORT));
+    // 10.
+    assert_eq!(bench.text_out(dc, AT, &[0x41; 65_536]), Err(Refusal::TEXT_TOO_LONG));
+    // None of this changed anything.
+    assert_eq!(bench.record(), before.record());
+    assert_eq!((bench.panel(), bench.store()), (before.panel(), before.store()));
+    // Just what is not refused.
+    assert_eq!(bench.text_out(dc, AT, &[0x41; 65_535]), Ok(6 * 65_535));
+    let stopped = [[0x41; 65_535].as_slice(), &[0; 9]].concat();
+    assert_eq!(bench.text_out(dc, AT, &stopped), Ok(6 * 65_535));
+    assert_eq!((bench.resize(0, 9999), bench.resize(5, 3)), (Ok(()), Ok(())));
+    let tall = bench.create_compatible_bitmap(0, 16).expect("as much as is left");
+    let sides = Bitmap { width: 1, height: 16, host_dirty: false };
+    assert_eq!(bench.get(tall), Some(GdiObject::Bitmap(sides)));
+}
+
+#[test]
+fn the_257th_object() {
+    let mut bench = Bench::open(1, 1, 2, 2 + 2 * 256).expect("a bench");
+    for i in 0..256 {
+        let handle = Handle(Handle::GDI_HANDLE_BASE.0 + i);
+        assert_eq!(bench.create_compatible_bitmap(1, 1), Ok(handle));
+    }
+    let before = bench.clone();
+    // 6 before 5, 5 before 7.
+    assert_eq!(bench.create_compatible_bitmap(4097, 1), Err(Refusal::SIDE));
+    assert_eq!(bench.create_compatible_bitmap(9, 9), Err(Refusal::TOO_MANY_OBJECTS));
+    assert_eq!(bench.create_memory_dc(), Err(Refusal::TOO_MANY_OBJECTS));
+    assert_eq!(bench.create_solid_brush(Colorref(0)), Err(Refusal::TOO_MANY_OBJECTS));
+    assert_eq!(bench.create_pen(Colorref(0), 1), Err(Refusal::TOO_MANY_OBJECTS));
+    assert_eq!(bench.create_font(1), Err(Refusal::TOO_MANY_OBJECTS));
+    assert_eq!(bench.record(), before.record());
+    // The last one is at the store's end; without the first it is not.
+    let last = Handle(Handle::GDI_HANDLE_BASE.0 + 255);
+    assert_eq!(bench.record().bitmap_place(last), Some(512..514));
+    assert_eq!(bench.delete(Handle::GDI_HANDLE_BASE), Ok(true));
+    assert_eq!(bench.record().bitmap_place(last), Some(510..512));
+    assert_eq!(bench.create_font(1), Ok(Handle(last.0 + 1)));
+}
+
+#[test]
+fn removed_objects() {
+    let (mut bench, [dc, bitmap, brush, pen, font]) = bench();
+    bench.set_text_color(dc, Colorref(5)).expect("a setting");
+    bench.set_text_align(dc, 6).expect("a setting");
+    bench.set_bk_color(dc, Colorref(7)).expect("a setting");
+    bench.set_bk_mode(dc, true).expect("a setting");
+    bench.select_into(dc, brush).expect("a selection");
+    bench.select_into(dc, pen).expect("a selection");
+    bench.select_into(dc, font).expect("a selection");
+    bench.rectangle(dc, AREA).expect("a rectangle");
+    let record = Dc {
+        surface: DcSurface::Memory,
+        selected_bitmap: Some(bitmap),
+        selected_brush: brush,
+        selected_pen: pen,
+        selected_font: font,
+        brush_color: Colorref(0x0012_3456),
+        pen_color: Colorref(0x00AB_CDEF),
+        text_color: Colorref(5),
+        text_align: 6,
+        bk_color: Colorref(7),
+        bk_transparent: true,
+    };
+    let objects = [
+        (dc, GdiObject::Dc(record)),
+        (bitmap, GdiObject::Bitmap(Bitmap { width: 3, height: 5, host_dirty: true })),
+        (brush, GdiObject::Brush(Brush { color: Colorref(0x0012_3456) })),
+        (pen, GdiObject::Pen(Pen { color: Colorref(0x00AB_CDEF), width: 7 })),
+        (font, GdiObject::Font(Font { height: -9 })),
+    ];
+    let slots = objects.map(|(handle, object)| Slot { handle, object });
+    assert_eq!(bench.record().slots().collect::<Vec<_>>(), slots);
+    assert_eq!(bench.record().slot(5), None);
+    for (handle, object) in objects {
+        assert_eq!(bench.get(handle), Some(object));
+        assert_eq!(bench.remove(handle), Ok(Some(object)));
+        assert_eq!(bench.get(handle), None);
+        assert_eq!(bench.remove(handle), Ok(None));
+        assert_eq!(bench.delete(handle), Ok(false));
+    }
+    assert_eq!(bench.record().count(), 0);
+    assert!(bench.store().iter().all(|&byte| byte == 0));
+    assert_eq!(bench.remove(SCREEN_DC), Ok(None));
+    assert_eq!(bench.delete(SCREEN_DC), Ok(true));
+}
+
+#[test]
+fn counters_go_round() {
+    let (bench, _) = bench();
+    let (record, panel, store) = bench.into_parts();
+    let mut numbers = record.into_numbers();
+    numbers[4..7].copy_from_slice(&[u32::MAX - 1, u32::MAX, u32::MAX - 1]);
+    let mut bench = Bench::from_parts(Record::from_numbers(numbers), panel, store);
+    assert_eq!(bench.frame_counter(), u64::MAX - 1);
+    for frames in [u64::MAX, 0, 1] {
+        bench.panel_fill(Rgb565(1)).expect("a fill");
+        assert_eq!(bench.frame_counter(), frames);
+    }
+    // Two at once.
+    let (record, panel, store) = bench.into_parts();
+    let mut numbers = record.into_numbers();
+    numbers[4..6].fill(u32::MAX);
+    let mut bench = Bench::from_parts(Record::from_numbers(numbers), panel, store);
+    bench.rectangle(SCREEN_DC, AREA).expect("a rectangle");
+    assert_eq!(bench.frame_counter(), 1);
+    // The low half alone.
+    let (record, panel, store) = bench.into_parts();
+    let mut numbers = record.into_numbers();
+    numbers[4..6].copy_from_slice(&[u32::MAX, 6]);
+    let mut bench = Bench::from_parts(Record::from_numbers(numbers), panel, store);
+    bench.panel_fill(Rgb565(1)).expect("a fill");
+    assert_eq!(bench.frame_counter(), 7 << 32);
+    // Handles pass 0.
+    for (handle, next) in [(u32::MAX - 1, u32::MAX), (u32::MAX, 0), (1, 2)] {
+        assert_eq!(bench.create_font(0), Ok(Handle(handle)));
+        assert_eq!(bench.record().next_handle(), Handle(next));
+    }
+}
+
+#[test]
+fn handles_pass_those_that_are_taken() {
+    let (bench, [dc, ..]) = bench();
+    let (record, panel, store) = bench.into_parts();
+    let numbers = record.into_numbers();
+    let next = |from: u32| {
+        let mut numbers = numbers.clone();
+        numbers[6] = from;
+        let record = Record::from_numbers(numbers);
+        Bench::from_parts(record, panel.clone(), store.clone()).create_font(0)
+    };
+    assert_eq!(next(0xDEAD_5700), Ok(Handle(0xDEAD_5700)));
+    assert_eq!(next(0xDEAD_5701), Ok(Handle(0xDEAD_570A)));
+    assert_eq!(next(SCREEN_DC.0), Ok(Handle(SCREEN_DC.0 + 1)));
+    assert_eq!(next(dc.0), Ok(Handle(dc.0 + 5)));
+}
+
+#[test]
+fn stock_objects_are_the_original_s() {
+    let original = GdiState::new();
+    let bench = Bench::open(1, 1, 2, 2).expect("a bench");
+    let stock = (0..=u32::from(u16::MAX)).map(|low| 0xDEAD_0000 | low);
+    let mut found = 0;
+    for handle in stock.filter(|&handle| gdi::is_stock_handle(handle)) {
+        let ours = bench.get(Handle(handle)).expect("a stock object");
+        match (original.get(handle).expect("a stock object"), ours) {
+            (gdi::GdiObject::Dc(theirs), GdiObject::Dc(dc)) => {
+                assert_eq!((dc.surface, dc.selected_bitmap), (DcSurface::Screen, None));
+                assert_eq!(dc.selected_brush.0, theirs.selected_brush);
+                assert_eq!(dc.selected_pen.0, theirs.selected_pen);
+                assert_eq!(dc.selected_font.0, theirs.selected_font);
+                assert_eq!(dc.brush_color.0, theirs.brush_color);
+                assert_eq!(dc.pen_color.0, theirs.pen_color);
+                assert_eq!(
+                    (dc.text_color.0, dc.text_align),
+                    (theirs.text_color, theirs.text_align)
+                );
+                assert_eq!((dc.bk_color.0, dc.bk_transparent), (theirs.bk_color, false));
+            }
+            (gdi::GdiObject::Bitmap(theirs), GdiObject::Bitmap(bitmap)) => {
+                assert_eq!((bitmap.width, bitmap.height), (theirs.width, theirs.height));
+                assert!(!bitmap.host_dirty);
+            }
+            (gdi::GdiObject::Brush(theirs), GdiObject::Brush(brush)) => {
+                assert_eq!(brush.color.0, theirs.color);
+            }
+            (gdi::GdiObject::Pen(theirs), GdiObject::Pen(pen)) => {
+                assert_eq!((pen.color.0, pen.width), (theirs.color, theirs.width));
+            }
+            (gdi::GdiObject::Font(theirs), GdiObject::Font(font)) => {
+                assert_eq!(font.height, theirs.height);
+            }
+            (theirs, ours) => panic!("{handle:08x}: {ours:?} for {theirs:?}"),
+        }
+        found += 1;
+    }
+    assert_eq!(found, 12);
+    assert_eq!(bench.get(Handle(0)), None);
+}
+
+#[test]
+fn raster_codes_are_the_original_s() {
+    macro_rules! same {
+        ($($code:ident)*) => { $(assert_eq!(rop3::$code, gdi::rop3::$code);)* };
+    }
+    same!(BLACKNESS NOTSRCERASE NOTSRCCOPY SRCERASE DSTINVERT PATINVERT SRCINVERT SRCAND);
+    same!(MERGEPAINT MERGECOPY SRCCOPY SRCPAINT PATCOPY PATPAINT WHITENESS);
+}
+
+#[test]
+fn refusals_tell_their_meaning() {
+    let told = Refusal::TEXT_TOO_LONG.to_string();
+    assert_eq!(told, "refused with 10: a text has over 65,535 units");
+    assert_eq!(Refusal(255).to_string(), "refused with 255: no such call");
+    let all: std::collections::BTreeSet<String> =
+        (1..=11).chain([255]).map(|number| Refusal(number).to_string()).collect();
+    assert_eq!(all.len(), 12);
+}
+
+#[test]
+fn a_call_needs_less_than_half_a_mebibyte_of_stack() {
+    let small = std::thread::Builder::new().stack_size(512 * 1024);
+    let drawn = small.spawn(|| {
+        let (mut bench, [dc, ..]) = bench();
+        for call in calls() {
+            bench.perform(&call, &[0x41; 9]);
+        }
+        bench.blit(SCREEN_DC, AREA, dc, AT, 0x00B8_074A)?;
+        bench.blit(dc, AREA, dc, Point { x: 1, y: 1 }, rop3::SRCCOPY)?;
+        bench.remove(dc).map(|_| ())
+    });
+    assert_eq!(drawn.expect("a thread").join().expect("no fault"), Ok(()));
+}

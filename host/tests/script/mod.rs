@@ -1,0 +1,277 @@
+//! Call scripts, as in docs/call-script.md, performed on the library in both of
+//! its forms: a bench by its methods, and a record by calls as numbers, on
+//! memories of its own. They must agree, call by call.
+
+use std::path::PathBuf;
+
+use ravinefork::{
+    call, Area, Bench, Colorref, Dc, DcSurface, GdiObject, Handle, HostCall, Point, Record,
+    Refusal, Reply, Rgb565,
+};
+
+/// A file of the repository.
+pub fn path(of: &str) -> PathBuf {
+    PathBuf::from(concat!(env!("CARGO_MANIFEST_DIR"), "/..")).join(of)
+}
+
+/// What each call takes, by its byte.
+const ARGUMENTS: [&[Field]; 18] = {
+    use Field::*;
+    [
+        &[],
+        &[A, B],
+        &[A],
+        &[A, B],
+        &[H],
+        &[A],
+        &[A],
+        &[Dc, A],
+        &[Dc, A],
+        &[Dc, A],
+        &[Dc, A],
+        &[Dc, A],
+        &[Dc, X, Y, W, H, A],
+        &[Dc, X, Y, W, H],
+        &[Dc, X, Y],
+        &[A],
+        &[A, B],
+        &[Dc, X, Y, W, H, Src, SrcX, SrcY, A],
+    ]
+};
+
+/// A field of a call.
+#[derive(Clone, Copy)]
+enum Field {
+    Dc,
+    Src,
+    A,
+    B,
+    X,
+    Y,
+    W,
+    H,
+    SrcX,
+    SrcY,
+}
+
+fn number(script: &mut &[u8]) -> Option<u32> {
+    let (bytes, rest) = script.split_first_chunk()?;
+    *script = rest;
+    Some(u32::from_be_bytes(*bytes))
+}
+
+/// Takes a call off the front of a script; none if it is a bad one.
+fn read(script: &mut &[u8]) -> Option<(HostCall, Vec<u16>)> {
+    let (&byte, rest) = script.split_first()?;
+    *script = rest;
+    let mut host = HostCall { call: byte.into(), ..HostCall::default() };
+    for field in *ARGUMENTS.get(usize::from(byte).checked_sub(1)?)? {
+        let n = number(script)?;
+        match field {
+            Field::Dc => host.dc = n,
+            Field::Src => host.src = n,
+            Field::A => host.a = n,
+            Field::B => host.b = n,
+            Field::X => host.x = n as i32,
+            Field::Y => host.y = n as i32,
+            Field::W => host.w = n as i32,
+            Field::H => host.h = n as i32,
+            Field::SrcX => host.src_x = n as i32,
+            Field::SrcY => host.src_y = n as i32,
+        }
+    }
+    let mut units = Vec::new();
+    if host.call == call::TEXT {
+        let count = number(script).filter(|&n| n <= 70_000)? as usize;
+        let (bytes, rest) = script.split_at_checked(2 * count)?;
+        *script = rest;
+        units = bytes.chunks_exact(2).map(|pair| u16::from_be_bytes([pair[0], pair[1]])).collect();
+    }
+    Some((host, units))
+}
+
+fn object_line(object: &GdiObject) -> String {
+    match object {
+        GdiObject::Dc(dc) => format!("dc {}", dc_line(dc)),
+        GdiObject::Bitmap(bitmap) => {
+            let dirty = u8::from(bitmap.host_dirty);
+            format!("bitmap {} {} {dirty}", bitmap.width, bitmap.height)
+        }
+        GdiObject::Brush(brush) => format!("brush {:08x}", brush.color.0),
+        GdiObject::Pen(pen) => format!("pen {:08x} {}", pen.color.0, pen.width),
+        GdiObject::Font(font) => format!("font {}", font.height),
+    }
+}
+
+fn dc_line(dc: &Dc) -> String {
+    let surface = match dc.surface {
+        DcSurface::Screen => "screen",
+        DcSurface::Memory => "memory",
+    };
+    let bitmap = dc.selected_bitmap.map_or("none".into(), |handle| handle.to_string());
+    let [brush, pen, font] = [dc.selected_brush, dc.selected_pen, dc.selected_font];
+    let colors = [dc.brush_color, dc.pen_color, dc.text_color].map(|c| format!("{:08x}", c.0));
+    let [colors, align, bk] =
+        [colors.join(" "), format!("{:08x}", dc.text_align), { format!("{:08x}", dc.bk_color.0) }];
+    let transparent = u8::from(dc.bk_transparent);
+    format!("{surface} {bitmap} {brush} {pen} {font} {colors} {align} {bk} {transparent}")
+}
+
+/// A number and an answer, or the answer's zero.
+fn line<T>(answer: Result<T, Refusal>, zero: T, shown: impl Fn(T) -> String) -> String {
+    match answer {
+        Ok(value) => format!("0 {}", shown(value)),
+        Err(refusal) => format!("{} {}", refusal.0, shown(zero)),
+    }
+}
+
+fn hex(number: u32) -> String {
+    format!("{number:08x}")
+}
+
+fn flag(flag: bool) -> String {
+    u8::from(flag).to_string()
+}
+
+fn shown(object: Option<GdiObject>) -> String {
+    object.map_or("none".into(), |object| object_line(&object))
+}
+
+fn drawn(answer: Result<(), Refusal>) -> String {
+    answer.err().map_or(0, |refusal| refusal.0).to_string()
+}
+
+/// The call by the bench's method, and its line; none if there is no such call.
+fn by_method(bench: &mut Bench, host: &HostCall, units: &[u16]) -> Option<String> {
+    let &HostCall { a, b, x, y, w, h, src_x, src_y, .. } = host;
+    let [dc, src, object] = [host.dc, host.src, a].map(Handle);
+    let (area, color, from) = (Area { x, y, w, h }, Colorref(a), Point { x: src_x, y: src_y });
+    let handle = |made| line(made, Handle(0), |handle| handle.to_string());
+    let old = |old| line(old, Colorref(0), |color| hex(color.0));
+    Some(match host.call {
+        call::CREATE_MEMORY_DC => handle(bench.create_memory_dc()),
+        call::CREATE_COMPATIBLE_BITMAP => handle(bench.create_compatible_bitmap(a, b)),
+        call::CREATE_SOLID_BRUSH => handle(bench.create_solid_brush(color)),
+        call::CREATE_PEN => handle(bench.create_pen(color, b)),
+        call::CREATE_FONT => handle(bench.create_font(h)),
+        call::DELETE => line(bench.delete(object), false, flag),
+        call::REMOVE => line(bench.remove(object), None, shown),
+        call::SELECT_INTO => handle(bench.select_into(dc, object)),
+        call::SET_TEXT_COLOR => old(bench.set_text_color(dc, color)),
+        call::SET_TEXT_ALIGN => line(bench.set_text_align(dc, a), 0, hex),
+        call::SET_BK_COLOR => old(bench.set_bk_color(dc, color)),
+        call::SET_BK_MODE if a <= 1 => line(bench.set_bk_mode(dc, a == 1), false, flag),
+        call::PATTERN_FILL => drawn(bench.pattern_fill(dc, area, a)),
+        call::RECTANGLE => drawn(bench.rectangle(dc, area)),
+        call::TEXT => {
+            let advance = bench.text_out(dc, Point { x, y }, units);
+            line(advance, 0, |advance| advance.to_string())
+        }
+        call::PANEL_FILL => drawn(bench.panel_fill(Rgb565(u16::try_from(a).ok()?))),
+        call::RESIZE => drawn(bench.resize(a, b)),
+        call::BLIT => drawn(bench.blit(dc, area, src, from, a)),
+        _ => return None,
+    })
+}
+
+/// The line of an answer as numbers; none if there is no such call.
+fn by_numbers(call: u32, reply: &Reply) -> Option<String> {
+    let Reply { refusal, value, flag, .. } = reply;
+    if *refusal == Refusal::NO_CALL.0 {
+        return None;
+    }
+    Some(match call {
+        call::DELETE | call::SET_BK_MODE => format!("{refusal} {flag}"),
+        call::REMOVE => format!("{refusal} {}", shown(reply.object())),
+        call::TEXT => format!("{refusal} {value}"),
+        call::PATTERN_FILL.. => format!("{refusal}"),
+        _ => format!("{refusal} {value:08x}"),
+    })
+}
+
+/// The lines of what a bench has come to.
+fn state(record: &Record, panel: &[u8], store: &[u8]) -> Vec<String> {
+    let (width, height) = (record.width(), record.height());
+    let (frames, next) = (record.frame_counter(), record.next_handle());
+    let (stock, count) = (u8::from(record.stock_dirty()), record.count());
+    let mut lines = vec![
+        format!("panel {width} {height} frames {frames} next {next} stock {stock} count {count}"),
+        format!("dc {} {}", Handle::GDI_SCREEN_DC, dc_line(&record.screen())),
+    ];
+    let objects = record.slots();
+    lines.extend(objects.map(|s| format!("object {} {}", s.handle, object_line(&s.object))));
+    lines.push(format!("crc {:08x} {:08x}", crc32(panel), crc32(store)));
+    lines
+}
+
+/// What is printed for a script, and how many calls it made.
+pub fn printed(script: &[u8]) -> (String, usize) {
+    let (lines, calls) = lines(script);
+    (lines.iter().flat_map(|line| [line, "\n"]).collect(), calls)
+}
+
+fn lines(script: &[u8]) -> (Vec<String>, usize) {
+    let header = (|| {
+        let mut rest = script.strip_prefix(b"GDI1")?;
+        let [panel, store, width, height] = [(); 4].map(|()| number(&mut rest));
+        let (&fill, rest) = rest.split_first()?;
+        Some(([panel?, store?, width?, height?], fill, rest))
+    })();
+    let Some(([panel_len, store_len, width, height], fill, mut rest)) =
+        header.filter(|_| script.len() <= 1_048_576)
+    else {
+        return (vec!["bad script".into()], 0);
+    };
+    if panel_len > 1_048_576 || store_len > 4_194_304 {
+        return (vec!["too large".into()], 0);
+    }
+    let memory = |len: u32| vec![fill; len as usize].into_boxed_slice();
+    let (mut panel, mut store, mut record) =
+        (memory(panel_len), memory(store_len), Record::default());
+    let opened = record.open(width, height, &mut panel, &mut store);
+    let bench = Bench::open_on(width, height, memory(panel_len), memory(store_len));
+    let mut lines = vec![format!("open {}", drawn(opened))];
+    let mut bench = match bench {
+        Ok(bench) => bench,
+        Err(refusal) => {
+            assert_eq!(opened, Err(refusal));
+            lines.extend(state(&record, &panel, &store));
+            return (lines, 0);
+        }
+    };
+    let mut calls = 0;
+    while !rest.is_empty() {
+        let line = read(&mut rest).and_then(|(host, units)| {
+            let line = by_method(&mut bench, &host, &units);
+            let reply = record.perform(&host, &units, &mut panel, &mut store);
+            assert_eq!(by_numbers(host.call, &reply), line, "{host:x?}");
+            assert!(record == *bench.record(), "the records differ after {host:x?}");
+            line.map(|line| format!("{:02x} {line}", host.call))
+        });
+        let Some(line) = line else {
+            lines.push("bad call".into());
+            break;
+        };
+        lines.push(line);
+        calls += 1;
+    }
+    assert!(*panel == *bench.panel() && *store == *bench.store(), "the memories differ");
+    lines.extend(state(&record, &panel, &store));
+    (lines, calls)
+}
+
+/// The CRC-32 of the bytes, the one of zlib and PNG.
+pub fn crc32(bytes: &[u8]) -> u32 {
+    let table: [u32; 256] = std::array::from_fn(|i| {
+        (0..8).fold(i as u32, |c, _| if c & 1 == 1 { c >> 1 ^ 0xEDB8_8320 } else { c >> 1 })
+    });
+    !bytes.iter().fold(u32::MAX, |c, &byte| table[usize::from(c as u8 ^ byte)] ^ c >> 8)
+}
+
+/// Asserts that two texts have the same lines.
+pub fn assert_lines(ours: &str, theirs: &str, of: &str) {
+    for (i, (our, their)) in ours.lines().zip(theirs.lines()).enumerate() {
+        assert_eq!(our, their, "{of}, line {}", i + 1);
+    }
+    assert_eq!(ours.len(), theirs.len(), "{of}: one has more lines");
+}
