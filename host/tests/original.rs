@@ -1,4 +1,4 @@
-//! Random call scripts give the lines that the original gives.
+//! Random call scripts give the lines that the original gives. `SCRIPTS=3000 cargo test --offline --test original` compares more.
 
 mod script;
 
@@ -8,8 +8,10 @@ use std::process::{Command, Output, Stdio};
 
 use script::{assert_lines, path, printed};
 
-/// Scripts that are compared.
-const SCRIPTS: u64 = 120;
+/// How many scripts are compared.
+fn scripts() -> u64 {
+    std::env::var("SCRIPTS").map_or(120, |number| number.parse().expect("SCRIPTS is a number"))
+}
 
 /// The comparison's program, built if it is not there.
 fn compare() -> PathBuf {
@@ -37,8 +39,8 @@ fn run(arguments: &[&str], input: &[u8]) -> Output {
 
 #[test]
 fn random_scripts() {
-    let (mut all, mut dropped) = (0, 0);
-    for seed in 1..=SCRIPTS {
+    let (scripts, mut all, mut dropped) = (scripts(), 0, 0);
+    for seed in 1..=scripts {
         let script = run(&["call-script", &seed.to_string()], &[]).stdout;
         let answers = run(&["call-answers"], &script);
         if !answers.status.success() {
@@ -52,6 +54,6 @@ fn random_scripts() {
         assert_lines(&ours, &lines, &format!("seed {seed}"));
         all += calls;
     }
-    println!("{all} calls of {} scripts, {dropped} dropped", SCRIPTS - dropped);
-    assert!(dropped < SCRIPTS / 2 && all > 10_000);
+    println!("{all} calls of {} scripts, {dropped} dropped", scripts - dropped);
+    assert!(dropped < scripts / 2 && all as u64 > 80 * scripts);
 }

@@ -15,7 +15,7 @@ use Rattle.words.specs.Words.{word, painted}
 use Rattle.words.proofs.Painted.{painted-none, painted-same, painted-cong}
 use Rattle.rop3.specs.Rop3.{applied}
 use Rattle.raster.specs.Raster.{ropped}
-use Rattle.clip.specs.declared.BlitRect.{BlitRect}
+use Rattle.clip_blit.specs.declared.BlitRect.{BlitRect}
 use Rattle.surface.specs.Region.{wordsOf, rect}
 use Rattle.surface.proofs.Rows.{row-fits, off-rows, no-rows}
 use Rattle.blit.specs.Blit.{Blit, clipped, region, sourceWord, rowHeld, blitFrom}

@@ -1,4 +1,3 @@
 pub mod Pixels
 pub mod Rows
 pub mod From
-pub mod Within

@@ -10,9 +10,9 @@ use Rattle.laws.specs.Interval.{between}
 use Rattle.laws.specs.Integer.{positive}
 use Rattle.laws.proofs.Interval.{bounds}
 use Rattle.laws.proofs.Test.{both, together, not-left, not-right}
-use Rattle.clip.specs.declared.BlitRect.{BlitRect}
-use Rattle.clip.specs.Blit.{blitAxis, Clipped}
-use Rattle.clip.proofs.Blit.{blit-clipped, blit-region}
+use Rattle.clip_blit.specs.declared.BlitRect.{BlitRect}
+use Rattle.clip_blit.specs.Blit.{blitAxis, Clipped}
+use Rattle.clip_blit.proofs.Blit.{blit-clipped, blit-region}
 use Rattle.surface.specs.Region.{wordsOf, rect}
 use Rattle.surface.proofs.Rows.{column-lt, row-lt, row-fits, no-rows, no-columns}
 use Rattle.blit.specs.Blit.{Blit, clipped, region, marks, sourceWord, rowHeld}

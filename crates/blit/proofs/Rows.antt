@@ -9,7 +9,7 @@ use Rattle.laws.specs.Interval.{between}
 use Rattle.words.specs.Words.{painted}
 use Rattle.words.proofs.Painted.{painted-again, word-kept}
 use Rattle.raster.specs.Raster.{ropped}
-use Rattle.clip.specs.declared.BlitRect.{BlitRect}
+use Rattle.clip_blit.specs.declared.BlitRect.{BlitRect}
 use Rattle.surface.specs.Region.{wordsOf, rect}
 use Rattle.surface.proofs.Rows.{run-row, run-column, row-below, row-above}
 use Rattle.blit.specs.Rows.{columns, rowAt, sourceRowAt, taken, Across}

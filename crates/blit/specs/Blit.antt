@@ -11,8 +11,8 @@ use Rattle.laws.specs.Interval.{between}
 use Rattle.laws.specs.Integer.{positive}
 use Rattle.words.specs.Words.{word, painted}
 use Rattle.raster.specs.Raster.{ropped}
-use Rattle.clip.specs.declared.BlitRect.{BlitRect}
-use Rattle.clip.specs.Blit.{sourceAt, drawnAt, blitRect}
+use Rattle.clip_blit.specs.declared.BlitRect.{BlitRect}
+use Rattle.clip_blit.specs.Blit.{sourceAt, drawnAt, blitRect}
 use Rattle.surface.specs.Region.{wordsOf, nonempty}
 
 -- A blit's numbers: the destination's sides, where to, where from, how much, and the source's sides.

@@ -9,7 +9,7 @@ use lib.ListN.{length}
 use Rattle.laws.specs.Interval.{between}
 use Rattle.words.specs.Words.{word, painted}
 use Rattle.raster.specs.Raster.{ropped}
-use Rattle.clip.specs.declared.BlitRect.{BlitRect}
+use Rattle.clip_blit.specs.declared.BlitRect.{BlitRect}
 use Rattle.surface.specs.Region.{wordsOf, rect}
 
 -- the box's number of columns

@@ -65,7 +65,7 @@ fn draw_on(
 {
     match drawing {
         Drawing::Fill { area, rop } => {
-            fill::fill_box_rop(
+            fill_rop::fill_box_rop(
                 pixels,
                 width,
                 height,

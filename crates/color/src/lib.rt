@@ -1,7 +1,7 @@
 // Colours: the COLORREF that callers name, the RGB565 word that pixels hold, and the RGB555 word of other bitmaps.
 
 ghost use mathlib.Core.Path.{_≡_};
-ghost use Rattle.color.specs.Color.{red, green, blue, packedChannels, packed, widened, from555, to555};
+ghost use Rattle.color.specs.Color.{red, green, blue, packedChannels, packed, widened};
 
 // 0x00BBGGRR. A COLORREF is never taken for an RGB565 word: only packing and widening cross between the two.
 pub struct Colorref(pub u32);
@@ -58,24 +58,4 @@ pub fn rgb565_to_colorref(p: Rgb565) -> Colorref
     let g = (p.0 / 32 % 64) as u32;
     let b = (p.0 % 32) as u32;
     Colorref(8 * r + r / 4 + 256 * (4 * g + g / 16) + 65536 * (8 * b + b / 4))
-}
-
-// Widens an RGB555 word's green by its high bit; the top bit has no effect.
-pub fn rgb555_to_rgb565(p: Rgb555) -> Rgb565
-    ensures { λ q. ⌜ q .0 ≡ from555 (p .0) ⌝ }
-{
-    let r = p.0 / 1024 % 32;
-    let g = p.0 / 32 % 32;
-    let b = p.0 % 32;
-    Rgb565(r * 2048 + g * 64 + g / 16 * 32 + b)
-}
-
-// Drops the low bit of an RGB565 word's green.
-pub fn rgb565_to_rgb555(p: Rgb565) -> Rgb555
-    ensures { λ q. ⌜ q .0 ≡ to555 (p .0) ⌝ }
-{
-    let r = p.0 / 2048;
-    let g = p.0 / 64 % 32;
-    let b = p.0 % 32;
-    Rgb555(r * 1024 + g * 32 + b)
 }

@@ -22,7 +22,7 @@ pub fn delete(state: GdiState, store: &mut [u8], handle: u32) -> Outcome
             answer: Answer::Deleted(true),
         };
     }
-    match gdi::find(state, handle) {
+    match lookup::find(state, handle) {
         Found::At(i) => {
             let after = removal::take_out(state, store, i);
             Outcome {
@@ -49,7 +49,7 @@ pub fn remove(state: GdiState, store: &mut [u8], handle: u32) -> Outcome
             answer: Answer::NotRemoved,
         };
     }
-    match gdi::find(state, handle) {
+    match lookup::find(state, handle) {
         Found::At(i) => {
             let s = state.objects[i];
             let o = s.object;

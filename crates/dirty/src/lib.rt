@@ -26,7 +26,7 @@ pub fn mark_dirty(state: GdiState, id: SurfaceId) -> GdiState
                 after.stock_dirty = true;
                 return after;
             }
-            match gdi::find(state, h) {
+            match lookup::find(state, h) {
                 Found::At(i) => {
                     let s = state.objects[i];
                     let o = s.object;

@@ -10,7 +10,7 @@ use Rattle.words.specs.Words.{written, word, painted}
 use Rattle.color.specs.Color.{packed, wideRed, wideGreen, wideBlue, from555}
 use Rattle.rop3.specs.Rop3.{tableOf, applied, usesSrc}
 use Rattle.clip.specs.Clip.{clippedAxis}
-use Rattle.clip.specs.Blit.{blitAxis, blitRect}
+use Rattle.clip_blit.specs.Blit.{blitAxis, blitRect}
 use Rattle.font.specs.Font.{glyphs, inkAt}
 use Rattle.surface.specs.Region.{wordsOf}
 use Rattle.fill.specs.Fill.{filled, fillMarks}
@@ -27,8 +27,8 @@ use Rattle.handles.specs.Handles.{free, firstFree, newHandle, added}
 use Rattle.plan.specs.declared.Answer.the-variants.{Handle}
 use Rattle.plan.specs.Plan.{refuse}
 use Rattle.plan.specs.Create.{createOf, createBitmap}
-use Rattle.snapshot.specs.P6.{header, digits}
-use Rattle.snapshot.specs.Snapshot.{joined}
+use Rattle.p6.specs.P6.{header, digits}
+use Rattle.p6.specs.Put.{joined}
 use Rattle.pixmap.specs.Pixmap.{isPicture, pictureOf}
 
 -- COLORREF 0x00C0C0C0 packs to 0xC618, 0xFF000000 to 0

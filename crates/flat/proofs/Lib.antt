@@ -1,6 +1,5 @@
 pub mod Block
-mod Complement
 pub mod Record
-pub mod View
 pub mod Seen
-pub mod Pinned
+pub mod Slots
+pub mod View

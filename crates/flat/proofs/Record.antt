@@ -1,12 +1,11 @@
--- The test of a record's numbers: what it tells, and how it comes out. Assumes nothing.
--- what it tells
-use mathlib.Core.Bool.{Bool, true, false, _&&_}
+-- What the test of a record's numbers tells. Assumes nothing.
+use mathlib.Core.Bool.{Bool, true, _&&_}
 use mathlib.Core.List.{List}
 use mathlib.Core.Path.{_≡_}
 use Prim.Native.Nat.{ℕ, _≤_, _<_}
 use lib.Dec.{eqb, leb}
 use lib.ListN.{length}
-use borrow.Author.Tests.{eqb-true, leb-true, eq-eqb, ne-eqb, le-leb, lt-leb}
+use borrow.Author.Tests.{eqb-true, leb-true, eq-eqb, le-leb}
 use Rattle.laws.specs.Test.{allBelow}
 use Rattle.laws.proofs.Test.{both, each}
 use Rattle.words.specs.Parts.{part}
@@ -39,23 +38,7 @@ module _ (l : List ℕ) where
         slots = each (at l 8) (λ i. isSlot (part l (slotPlace i) 14)) (d .1);
       }
 
-  -- how it comes out
-  pub too-short : (length l ≡ 3605 → ⊥) → false ≡ isRecord l
-  unfolding isRecord
-  too-short n = rw (ne-eqb (length l) 3605 n)
-
-  pub no-flag : length l ≡ 3605 → 1 < at l 7 → false ≡ isRecord l
-  unfolding isRecord
-  no-flag a h = rw (eq-eqb (length l) 3605 a, lt-leb (at l 7) 1 h)
-
-  pub too-many : length l ≡ 3605 → at l 7 ≤ 1 → 256 < at l 8 → false ≡ isRecord l
-  unfolding isRecord
-  too-many a b h = rw (eq-eqb (length l) 3605 a, le-leb (at l 7) 1 b, lt-leb (at l 8) 256 h)
-
-  pub no-screen : length l ≡ 3605 → at l 7 ≤ 1 → at l 8 ≤ 256 → isDc (part l 9 12) ≡ false → false ≡ isRecord l
-  unfolding isRecord
-  no-screen a b c h = rw (eq-eqb (length l) 3605 a, le-leb (at l 7) 1 b, le-leb (at l 8) 256 c, h)
-
+  -- the test of the slots decides, where the rest of the test holds
   pub by-slots : length l ≡ 3605 → at l 7 ≤ 1 → at l 8 ≤ 256 → isDc (part l 9 12) ≡ true → slotsTest ≡ isRecord l
   unfolding isRecord
   by-slots a b c h = rw (eq-eqb (length l) 3605 a, le-leb (at l 7) 1 b, le-leb (at l 8) 256 c, h)

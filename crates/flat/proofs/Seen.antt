@@ -1,6 +1,5 @@
 -- What the numbers say of the record that they are: its size, and slot by slot the handle and the object. Assumes nothing.
--- numbers of a part
-use mathlib.Core.Bool.{Bool, true, _&&_}
+use mathlib.Core.Bool.{true}
 use mathlib.Core.List.{List}
 use mathlib.Core.Path.{_≡_, refl, sym, _∙_, ap, subst⁻¹}
 use Prim.Native.Nat.{ℕ, _+_, _*_, _≤_, _<_}
@@ -8,8 +7,7 @@ use native.Mathlib.Decide.{ℕ-discrete}
 use native.Mathlib.Omega.{arith}
 use lib.ListN.{length, drop, length-take, length-drop}
 use lib.Seq.{getD-take, getD-drop, ext-getD}
-use borrow.Author.Tests.{eqb-true, leb-true, ne-eqb}
-use Rattle.laws.proofs.Test.{both}
+use borrow.Author.Tests.{ne-eqb}
 use Rattle.words.specs.Parts.{part}
 use Rattle.bigendian.specs.BigEndian.{signed32}
 use Rattle.gdi.specs.declared.Brush.{Brush as BrushRecord}
@@ -20,8 +18,10 @@ use Rattle.gdi.specs.declared.GdiObject.the-variants.{Dc as DcOf, Bitmap, Brush
 use Rattle.gdi.specs.Lookup.{handleAt, objectAt}
 use Rattle.flat.specs.Block.{at, flagOf, dcOf, objectOf}
 use Rattle.flat.specs.View.{view, isRecord}
+use Rattle.flat.proofs.Record.{parts}
 use Rattle.flat.proofs.View.{slot-seen}
 
+-- numbers of a part
 pub part-at : (l : List ℕ) (p n k : ℕ) → k < n → at (part l p n) k ≡ at l (p + k)
 part-at l p n k h = getD-take n (drop p l) k 0 h ∙ getD-drop p l k 0
 
@@ -66,21 +66,13 @@ module _ (l : List ℕ) where
   unfolding view
   screen-seen = refl
 
-and-l : (a b : Bool) → (a && b) ≡ true → a ≡ true
-and-l a b e = both a b e .0
-
-and-r : (a b : Bool) → (a && b) ≡ true → b ≡ true
-and-r a b e = both a b e .1
-
 -- numbers that are a record: as many as there have to be, with at most 256 objects
 module _ (l : List ℕ) (r : isRecord l ≡ true) where
   pub record-length : length l ≡ 3605
-  unfolding isRecord
-  record-length = eqb-true _ _ (and-l _ _ r)
+  record-length = parts l r .long
 
   pub record-count : at l 8 ≤ 256
-  unfolding isRecord
-  record-count = leb-true _ _ (search (and-l, and-r) depth 12)
+  record-count = parts l r .few
 
   -- slot i of an object
   module _ (i : ℕ) (lt : i < at l 8) where

@@ -1,20 +1,28 @@
 -- Laws of the record that numbers are. Assumes nothing.
 use mathlib.Core.Bool.{Bool, cond}
-use mathlib.Core.List.{List}
+use mathlib.Core.List.{List, [], _∷_}
 use mathlib.Core.Path.{_≡_, refl, sym, _∙_, ap}
-use Prim.Native.Nat.{ℕ, zero, suc, _+_, _≤_, _<_}
+use Prim.Native.Nat.{ℕ, zero, suc, _+_, _/_, _%_, _≤_, _<_}
 use native.Mathlib.Decide.{ℕ-discrete}
 use native.Mathlib.Omega.{arith}
 use lib.ListN.{length, getD, set, length-set}
 use lib.Seq.{ext-getD, getD-set-same, getD-set-other}
 use borrow.Author.Tests.{lt-ltb, le-ltb}
 use Rattle.words.specs.Parts.{part}
+use Rattle.gdi.specs.declared.GdiState.{GdiState}
 use Rattle.gdi.specs.declared.Slot.{Slot}
 use Rattle.gdi.specs.Record.{noSlot, vacantSlot}
 use Rattle.gdi.specs.Lookup.{slotAt}
-use Rattle.flat.specs.Block.{at, slotOf}
+use Rattle.flat.specs.Block.{at, bit, slotOf}
 use Rattle.flat.specs.View.{slotPlace, tableFrom, slotIn, view}
 
+-- the nine numbers of the bench, by the record
+abbrev pub benchNumbers : GdiState → List ℕ
+benchNumbers b =
+    b .«panel_len» ∷ b .«store_len» ∷ b .width ∷ b .height ∷ b .«frame_counter» % 4294967296 ∷ b .«frame_counter» / 4294967296 ∷ b .«next_handle»
+    ∷ bit (b .«stock_dirty») ∷ b .count ∷ []
+
+-- tables of slots
 pub length-table : (f : ℕ → Slot) (k m : ℕ) → length (tableFrom f k m) ≡ m
 unfolding tableFrom
 length-table f k zero = refl

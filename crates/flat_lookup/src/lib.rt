@@ -8,18 +8,16 @@ ghost use Rattle.gdi.specs.Lookup.{findOf, dcOf, kindAt, kindOf};
 ghost use Rattle.flat.specs.Block.{at, objectOf};
 ghost use Rattle.flat.specs.View.{view, isRecord};
 use color::Colorref;
+use flat::COUNT;
+use flat::KIND;
+use flat::OBJECT;
+use flat::SLOT;
+use flat::SLOTS;
 use gdi::DcFound;
 use gdi::Found;
 use gdi::GDI_SCREEN_DC;
 use gdi::Kind;
 use gdi::Spot;
-
-// Where the count stands; in a slot, where the kind and the object's numbers stand.
-pub const COUNT: usize = 8;
-
-pub const KIND: usize = 1;
-
-pub const OBJECT: usize = 2;
 
 // The slot of the created object of this handle.
 pub fn find(l: &[u32], handle: u32) -> Found
@@ -29,7 +27,7 @@ pub fn find(l: &[u32], handle: u32) -> Found
     let n = l[COUNT] as usize;
     let mut i: usize = 0;
     while i < n {
-        if l[flat::SLOTS + flat::SLOT * i] == handle {
+        if l[SLOTS + SLOT * i] == handle {
             return Found::At(i);
         }
         i += 1;
@@ -43,17 +41,17 @@ pub fn find_dc(l: &[u32], handle: u32) -> DcFound
     ensures { λ r. ⌜ r ≡ dcOf (view (now (l .entry))) handle ⌝ }
 {
     if handle == GDI_SCREEN_DC {
-        let d = flat::dc_of(&l[flat::SCREEN..flat::SLOTS]);
+        let d = flat::dc_of(&l[flat::SCREEN..SLOTS]);
         return DcFound::Is(Spot::Screen, d);
     }
     match find(l, handle) {
         Found::At(i) => {
-            let p = flat::SLOTS + flat::SLOT * i;
+            let p = SLOTS + SLOT * i;
             if l[p + KIND] != 0 {
                 return DcFound::Absent;
             }
             let first = p + OBJECT;
-            let end = p + flat::SLOT;
+            let end = p + SLOT;
             let d = flat::dc_of(&l[first..end]);
             DcFound::Is(Spot::Created(i), d)
         }
@@ -81,7 +79,7 @@ pub fn find_kind(l: &[u32], handle: u32) -> Kind
     ensures { λ r. ⌜ r ≡ kindOf (view (now (l .entry))) handle ⌝ }
 {
     match find(l, handle) {
-        Found::At(i) => { kind_at(l, flat::SLOTS + flat::SLOT * i) }
+        Found::At(i) => { kind_at(l, SLOTS + SLOT * i) }
         Found::Nothing => gdi::stock_kind(handle),
     }
 }

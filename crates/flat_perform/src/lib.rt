@@ -1,28 +1,15 @@
-// Open and every call, on the record that flat numbers are: out of them, performed, and into them again.
+// One entry for every call on the record that flat numbers are, made where the numbers lie.
 ghost use mathlib.Core.Path.{_≡_};
 ghost use mathlib.Core.Bool.{true};
-ghost use lib.ListN.{length};
 ghost use Rattle.flat.specs.View.{view, isRecord};
 ghost use Rattle.paint.specs.Memories.{memories};
-ghost use Rattle.plan.specs.Answer.{partsOf};
 ghost use Rattle.plan.specs.Calls.{planOf};
-ghost use Rattle.flat_perform.specs.Served.{Served, OpenedOn};
+ghost use Rattle.flat_plan.specs.Served.{Served};
 use plan::Answer;
 use plan::Call;
 
-// Opens a bench. The number with which it is refused, 0 if it is not.
-pub fn open_on(l: &mut [u32], panel: &mut [u8], store: &mut [u8], width: u32, height: u32) -> u32
-    requires { ⌜ length (now l) ≡ 3605 ⌝ }
-    ensures { λ r. ⌜ OpenedOn width height (now (l .entry)) (memories (now (panel .entry)) (now (store .entry))) r (now (l .exit)) (memories (now (panel .exit)) (now (store .exit))) ⌝ }
-{
-    let opened = open::open(panel, store, width, height);
-    let state = opened.state;
-    flat_record::encode(state, l);
-    opened.refusal
-}
-
 // Performs a call. Refused, it changes no number and no byte.
-pub fn perform_on(
+pub fn perform(
     l: &mut [u32],
     call: Call,
     units: &[u16],
@@ -32,31 +19,46 @@ pub fn perform_on(
     requires { ⌜ isRecord (now l) ≡ true ⌝ }
     ensures { λ r. ⌜ Served (planOf call (now (units .entry)) (view (now (l .entry))) (memories (now (panel .entry)) (now (store .entry)))) (now (l .entry)) (memories (now (panel .entry)) (now (store .entry))) r (now (l .exit)) (memories (now (panel .exit)) (now (store .exit))) ⌝ }
 {
-    let state = flat_record::decode(l);
-    let outcome = perform::perform(state, call, units, panel, store);
-    let answer = outcome.answer;
-    if refusal_of(answer) != 0 {
-        return answer;
+    let no = flat_ready::common_refusal(l, panel.len(), store.len());
+    if no != 0 {
+        return Answer::Refused(no);
     }
-    let after = outcome.state;
-    flat_record::encode(after, l);
-    answer
-}
-
-// The number of a refusal, 0 of any other answer.
-pub fn refusal_of(answer: Answer) -> u32
-    ensures { λ r. ⌜ r ≡ partsOf answer .number ⌝ }
-{
-    match answer {
-        Answer::Refused(no) => no,
-        Answer::Handle(_) => 0,
-        Answer::Deleted(_) => 0,
-        Answer::Removed(_) => 0,
-        Answer::NotRemoved => 0,
-        Answer::OldColor(_) => 0,
-        Answer::OldAlign(_) => 0,
-        Answer::OldMode(_) => 0,
-        Answer::Drawn => 0,
-        Answer::Advance(_) => 0,
+    match call {
+        Call::CreateMemoryDc => flat_create::create_memory_dc(l, store),
+        Call::CreateCompatibleBitmap { width, height } => flat_create::create_compatible_bitmap(
+            l,
+            store,
+            width,
+            height,
+        ),
+        Call::CreateSolidBrush(color) => flat_create::create_solid_brush(l, store, color),
+        Call::CreatePen { color, width } => flat_create::create_pen(l, store, color, width),
+        Call::CreateFont(height) => flat_create::create_font(l, store, height),
+        Call::Delete(handle) => flat_delete::delete(l, store, handle),
+        Call::Remove(handle) => flat_delete::remove(l, store, handle),
+        Call::SelectInto { dc, object } => flat_select::select_into(l, dc, object),
+        Call::SetTextColor { dc, color } => flat_settings::set_text_color(l, dc, color),
+        Call::SetTextAlign { dc, align } => flat_settings::set_text_align(l, dc, align),
+        Call::SetBkColor { dc, color } => flat_settings::set_bk_color(l, dc, color),
+        Call::SetBkMode { dc, transparent } => flat_settings::set_bk_mode(l, dc, transparent),
+        Call::PatternFill { dc, area, rop } => flat_draw::pattern_fill(
+            l,
+            panel,
+            store,
+            dc,
+            area,
+            rop,
+        ),
+        Call::Rectangle { dc, area } => flat_draw::rectangle(l, panel, store, dc, area),
+        Call::Text { dc, at } => flat_text::text_out(l, panel, store, units, dc, at),
+        Call::PanelFill(color) => flat_panel::fill(l, panel, color),
+        Call::Resize { width, height } => flat_panel::resize(l, panel, width, height),
+        Call::Blit {
+            dc,
+            area,
+            src,
+            from,
+            rop,
+        } => flat_blit::blit(l, panel, store, dc, area, src, from, rop),
     }
 }

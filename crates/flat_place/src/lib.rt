@@ -8,12 +8,14 @@ ghost use Rattle.flat.specs.Block.{at, objectOf};
 ghost use Rattle.flat.specs.View.{view, isRecord};
 ghost use Rattle.sound.specs.Sound.{isSound};
 ghost use Rattle.place.specs.Place.{frameOf, targetOf, Located, Placed};
-use flat_lookup::COUNT;
-use flat_lookup::KIND;
-use flat_lookup::OBJECT;
-use flat_sound::BITMAP_HEIGHT;
-use flat_sound::HEIGHT;
-use flat_sound::WIDTH;
+use flat::BITMAP_HEIGHT;
+use flat::COUNT;
+use flat::HEIGHT;
+use flat::KIND;
+use flat::OBJECT;
+use flat::SLOT;
+use flat::SLOTS;
+use flat::WIDTH;
 use gdi::DcFound;
 use gdi::STOCK_DEFAULT_BITMAP;
 use gdi::SelectedBitmap;
@@ -44,7 +46,7 @@ fn locate(l: &[u32], handle: u32) -> Place
     let mut i: usize = 0;
     let mut start: usize = 2;
     while i < n {
-        let p = flat::SLOTS + flat::SLOT * i;
+        let p = SLOTS + SLOT * i;
         if l[p] == handle {
             return frame(l, p, start);
         }

@@ -1,3 +1,2 @@
 pub mod Objects
 pub mod Slots
-pub mod Record

@@ -1,3 +1,4 @@
 pub mod Kept
 pub mod Stores
 pub mod Marks
+pub mod Spotted

@@ -50,13 +50,13 @@ undue-stored l s r e = rw e (nothing-done l r)
 module _ (l l′ : List ℕ) (r : isRecord l ≡ true) where
   -- a number of the bench, apart from the count
   module _ {p n : ℕ} (kept : Kept l p n l′) (front : p + n ≤ 8) where
-    screen : part l′ 9 12 ≡ part l 9 12
+    pub screen : part l′ 9 12 ≡ part l 9 12
     screen = part-kept kept 9 12 (λ j a b c d. omega arith)
 
     behind : (k : ℕ) → p + n ≤ k → at l′ k ≡ at l k
     behind k h = kept .same k (λ a b. omega arith)
 
-    head-stored : {b : GdiState} → view l′ ≡ b → b .count ≡ at l 8 → at l′ 7 ≤ 1 → Stored l b l′
+    pub head-stored : {b : GdiState} → view l′ ≡ b → b .count ≡ at l 8 → at l′ 7 ≤ 1 → Stored l b l′
     head-stored seen count flag =
         record {
           is-record = front-record l l′ r kept (omega arith) (behind 8 front) flag (ap isDc screen ∙ parts l r .screen);

@@ -9,22 +9,19 @@ ghost use Rattle.flat.specs.Block.{at};
 ghost use Rattle.flat.specs.View.{view, isRecord, Stored};
 ghost use Rattle.dirty.specs.Dirty.{slotDirtied, framed, dirtied, dirtiedIf};
 ghost use Rattle.flat_store.specs.Spotted.{Spotted};
-use flat_lookup::KIND;
-use flat_lookup::OBJECT;
+use flat::BITMAP_DIRTY;
+use flat::FRAMES_HIGH;
+use flat::FRAMES_LOW;
+use flat::KIND;
+use flat::OBJECT;
+use flat::SLOT;
+use flat::SLOTS;
+use flat::STOCK_DIRTY;
 use gdi::Dc;
 use gdi::Found;
 use gdi::STOCK_DEFAULT_BITMAP;
 use gdi::Spot;
 use place::SurfaceId;
-
-// Where the frame counter's halves and the stock bitmap's mark stand; in a bitmap's slot, where its mark stands.
-pub const FRAMES_LOW: usize = 4;
-
-pub const FRAMES_HIGH: usize = 5;
-
-pub const STOCK_DIRTY: usize = 7;
-
-pub const BITMAP_DIRTY: usize = 4;
 
 // Puts d as the DC of this handle, which stands at spot. Only its twelve numbers are written.
 pub fn store_dc(l: &mut [u32], handle: u32, spot: Spot, d: Dc)
@@ -34,13 +31,13 @@ pub fn store_dc(l: &mut [u32], handle: u32, spot: Spot, d: Dc)
 {
     match spot {
         Spot::Screen => {
-            flat::put_dc(&mut l[flat::SCREEN..flat::SLOTS], d);
+            flat_put::put_dc(&mut l[flat::SCREEN..SLOTS], d);
         }
         Spot::Created(i) => {
-            let p = flat::SLOTS + flat::SLOT * i;
+            let p = SLOTS + SLOT * i;
             let first = p + OBJECT;
-            let end = p + flat::SLOT;
-            flat::put_dc(&mut l[first..end], d);
+            let end = p + SLOT;
+            flat_put::put_dc(&mut l[first..end], d);
         }
     }
 }
@@ -97,7 +94,7 @@ fn mark_slot(l: &mut [u32], i: usize)
     requires { ⌜ i < at (now l) 8 ⌝ }
     ensures { λ _. ⌜ Stored (now (l .entry)) (withObjects (view (now (l .entry))) (view (now (l .entry)) .«next_handle») (view (now (l .entry)) .count) (set (view (now (l .entry)) .objects) i (slotDirtied (slotAt (view (now (l .entry))) i)))) (now (l .exit)) ⌝ }
 {
-    let p = flat::SLOTS + flat::SLOT * i;
+    let p = SLOTS + SLOT * i;
     if l[p + KIND] == 1 {
         l[p + BITMAP_DIRTY] = 1;
         return;

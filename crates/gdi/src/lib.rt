@@ -1,10 +1,10 @@
-// The GDI object table by value: its types, the stock objects, and what a handle names.
+// The GDI object table by value: its types, its first state, and the stock objects.
 ghost use mathlib.Core.Path.{_≡_};
 ghost use mathlib.Core.Bool.{true};
 ghost use Prim.Native.Nat.{_≤_};
-ghost use Rattle.gdi.specs.Record.{dcOn, defaultDc, screenDc, vacantSlot, fresh, within, storeOf};
+ghost use Rattle.gdi.specs.Record.{dcOn, defaultDc, screenDc, vacantSlot, fresh};
 ghost use Rattle.gdi.specs.Stock.{isStock, stockKind};
-ghost use Rattle.gdi.specs.Lookup.{findOf, dcOf, kindAt, kindOf};
+ghost use Rattle.gdi.specs.Lookup.{kindAt};
 use color::Colorref;
 
 // The handle that the first created object gets.
@@ -225,65 +225,6 @@ pub fn fresh_state(panel_len: usize, store_len: usize, width: u32, height: u32) 
     }
 }
 
-// The slot of the created object of this handle.
-pub fn find(state: GdiState, handle: u32) -> Found
-    requires { ⌜ state .count ≤ 256 ⌝ }
-    ensures { λ r. ⌜ r ≡ findOf state handle ⌝ }
-{
-    let n = state.count;
-    let mut i: usize = 0;
-    while i < n {
-        if state.objects[i].handle == handle {
-            return Found::At(i);
-        }
-        i += 1;
-    }
-    Found::Nothing
-}
-
-// The DC of this handle.
-pub fn find_dc(state: GdiState, handle: u32) -> DcFound
-    requires { ⌜ state .count ≤ 256 ⌝ }
-    ensures { λ r. ⌜ r ≡ dcOf state handle ⌝ }
-{
-    if handle == GDI_SCREEN_DC {
-        let d = state.screen;
-        return DcFound::Is(Spot::Screen, d);
-    }
-    match find(state, handle) {
-        Found::At(i) => {
-            let s = state.objects[i];
-            let o = s.object;
-            match o {
-                GdiObject::Dc(d) => DcFound::Is(Spot::Created(i), d),
-                _ => DcFound::Absent,
-            }
-        }
-        Found::Nothing => DcFound::Absent,
-    }
-}
-
-// The record with d as the DC of this handle, which stands at spot.
-pub fn store_dc(state: GdiState, handle: u32, spot: Spot, d: Dc) -> GdiState
-    requires { ⌜ within spot ≡ true ⌝ }
-    ensures { λ r. ⌜ r ≡ storeOf state handle spot d ⌝ }
-{
-    let mut after = state;
-    match spot {
-        Spot::Screen => {
-            after.screen = d;
-            after
-        }
-        Spot::Created(i) => {
-            after.objects[i] = Slot {
-                handle: handle,
-                object: GdiObject::Dc(d),
-            };
-            after
-        }
-    }
-}
-
 // What a stock handle names.
 pub fn stock_kind(handle: u32) -> Kind
     ensures { λ r. ⌜ r ≡ stockKind handle ⌝ }
@@ -320,20 +261,5 @@ pub fn kind_at(object: GdiObject) -> Kind
             Kind::Pen(c)
         }
         GdiObject::Font(_) => Kind::Font,
-    }
-}
-
-// What a handle names, created or stock.
-pub fn find_kind(state: GdiState, handle: u32) -> Kind
-    requires { ⌜ state .count ≤ 256 ⌝ }
-    ensures { λ r. ⌜ r ≡ kindOf state handle ⌝ }
-{
-    match find(state, handle) {
-        Found::At(i) => {
-            let s = state.objects[i];
-            let o = s.object;
-            kind_at(o)
-        }
-        Found::Nothing => stock_kind(handle),
     }
 }

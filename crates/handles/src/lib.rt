@@ -16,7 +16,7 @@ pub fn is_absent(state: GdiState, handle: u32) -> bool
     requires { ⌜ state .count ≤ 256 ⌝ }
     ensures { λ r. ⌜ r ≡ absent (state .objects) (state .count) handle ⌝ }
 {
-    match gdi::find(state, handle) {
+    match lookup::find(state, handle) {
         Found::At(_) => false,
         Found::Nothing => true,
     }

@@ -15,10 +15,10 @@ use Rattle.plan.specs.Calls.{planOf}
 use Rattle.host_call.specs.declared.HostCall.{HostCall}
 use Rattle.host_call.specs.declared.CallRead.{CallRead}
 use Rattle.host_call.specs.declared.CallRead.the-variants.{NoCall, Is}
-use Rattle.host_call.specs.declared.Reply.{Reply}
 use Rattle.host_call.specs.Call.{callOf}
-use Rattle.host_call.specs.Reply.{Replied}
-use Rattle.flat_perform.specs.Served.{OpenedOn}
+use Rattle.host_reply.specs.declared.Reply.{Reply}
+use Rattle.host_reply.specs.Reply.{Replied}
+use Rattle.flat_open.specs.Opened.{OpenedOn}
 use Rattle.snapshot.specs.Snapshot.{ppmLength, snapshotRefusal}
 
 -- Refused before a record was looked at: no number and no byte changes.

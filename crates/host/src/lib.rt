@@ -11,7 +11,7 @@ ghost use Rattle.snapshot.specs.Snapshot.{rgbaOf, ppmOf, rgbaLength, ppmLength}
 ghost use Rattle.host.specs.Host.{Hosted, HostPerformed, HostOpened, snapshotNumber, pictureLength};
 use host_call::CallRead;
 use host_call::HostCall;
-use host_call::Reply;
+use host_reply::Reply;
 use plan::Answer;
 use plan::Call;
 use ready::UNSOUND_RECORD;
@@ -34,7 +34,7 @@ pub extern "C" fn ravinefork_open(
     if numbers.len() != flat::RECORD {
         return UNSOUND_RECORD;
     }
-    flat_perform::open_on(numbers, panel, store, width, height)
+    flat_open::open_on(numbers, panel, store, width, height)
 }
 
 // Performs a call: `perform::perform` on numbers. Units are those of a text.
@@ -49,7 +49,7 @@ pub extern "C" fn ravinefork_perform(
     ensures { λ r. ⌜ HostPerformed call (now (units .entry)) (now (numbers .entry)) (memories (now (panel .entry)) (now (store .entry))) r (now (numbers .exit)) (memories (now (panel .exit)) (now (store .exit))) ⌝ }
 {
     match host_call::call_of(call) {
-        CallRead::NoCall => host_call::reply_of(Answer::Refused(NO_CALL)),
+        CallRead::NoCall => host_reply::reply_of(Answer::Refused(NO_CALL)),
         CallRead::Is(c) => perform(numbers, c, units, panel, store),
     }
 }
@@ -64,11 +64,11 @@ fn perform(
 ) -> Reply
     ensures { λ r. ⌜ Hosted call (now (units .entry)) (now (numbers .entry)) (memories (now (panel .entry)) (now (store .entry))) r (now (numbers .exit)) (memories (now (panel .exit)) (now (store .exit))) ⌝ }
 {
-    if !flat_record::is_record(numbers) {
-        return host_call::reply_of(Answer::Refused(UNSOUND_RECORD));
+    if !flat_check::is_record(numbers) {
+        return host_reply::reply_of(Answer::Refused(UNSOUND_RECORD));
     }
-    let answer = flat_entry::perform(numbers, call, units, panel, store);
-    host_call::reply_of(answer)
+    let answer = flat_perform::perform(numbers, call, units, panel, store);
+    host_reply::reply_of(answer)
 }
 
 // Writes the panel's pixels as R, G, B, 255. The refusal's number, 0 if the snapshot was made.
@@ -77,10 +77,10 @@ pub extern "C" fn ravinefork_snapshot_rgba8888(numbers: &[u32], panel: &[u8], ou
     ensures { λ r. ⌜ r ≡ snapshotNumber (now (numbers .entry)) (length (now (panel .entry))) (length (now (out .entry))) rgbaLength ⌝ }
     ensures bytes { λ r. ⌜ now (out .exit) ≡ unlessRefused r (rgbaOf (now (panel .entry)) (view (now (numbers .entry)) .width * view (now (numbers .entry)) .height)) (now (out .entry)) ⌝ }
 {
-    if !flat_record::is_record(numbers) {
+    if !flat_check::is_record(numbers) {
         return UNSOUND_RECORD;
     }
-    let state = flat_record::decode(numbers);
+    let state = flat_decode::decode(numbers);
     snapshot::snapshot_rgba8888_into(state, panel, out)
 }
 
@@ -90,10 +90,10 @@ pub extern "C" fn ravinefork_snapshot_ppm(numbers: &[u32], panel: &[u8], out: &m
     ensures { λ r. ⌜ r ≡ snapshotNumber (now (numbers .entry)) (length (now (panel .entry))) (length (now (out .entry))) ppmLength ⌝ }
     ensures bytes { λ r. ⌜ now (out .exit) ≡ unlessRefused r (ppmOf (view (now (numbers .entry)) .width) (view (now (numbers .entry)) .height) (now (panel .entry))) (now (out .entry)) ⌝ }
 {
-    if !flat_record::is_record(numbers) {
+    if !flat_check::is_record(numbers) {
         return UNSOUND_RECORD;
     }
-    let state = flat_record::decode(numbers);
+    let state = flat_decode::decode(numbers);
     snapshot::snapshot_ppm(state, panel, out)
 }
 
@@ -108,5 +108,5 @@ pub extern "C" fn ravinefork_ppm_len(width: u32, height: u32) -> usize
     if height > MAX_SIDE {
         return 0;
     }
-    snapshot::ppm_len(width, height)
+    p6::ppm_len(width, height)
 }

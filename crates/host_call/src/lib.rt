@@ -1,16 +1,11 @@
-// A call and an answer as numbers, for hosts in other languages.
+// A call as numbers, for hosts in other languages.
 ghost use mathlib.Core.Path.{_≡_};
 ghost use Rattle.host_call.specs.Call.{areaOf, atOf, fromOf, callOf};
-ghost use Rattle.host_call.specs.Reply.{plainReply, Replied};
 use color::Colorref;
 use color::Rgb565;
-use plan::Answer;
 use plan::Area;
 use plan::Call;
 use plan::Point;
-
-// The kind of a reply that has no object.
-pub const NO_OBJECT: u32 = 5;
 
 // A call by its number in call scripts. What a call does not name is not looked at: `a` is a bitmap's or a panel's width, a
 // colour, an object's handle, a setting or a raster code, `b` a height or a pen's width; `h` is a font's height too.
@@ -34,18 +29,7 @@ pub enum CallRead {
     Is(Call),
 }
 
-// An answer: the number of a refusal, 0 if there is none; a handle, colour, alignment or advance; a flag, 0 or 1; a removed
-// object's kind and twelve numbers, as in a record.
-#[repr(C)]
-pub struct Reply {
-    pub refusal: u32,
-    pub value: u32,
-    pub flag: u32,
-    pub kind: u32,
-    pub fields: [u32; 12],
-}
-
-pub fn area_of(c: HostCall) -> Area
+fn area_of(c: HostCall) -> Area
     ensures { λ r. ⌜ r ≡ areaOf c ⌝ }
 {
     Area {
@@ -56,13 +40,13 @@ pub fn area_of(c: HostCall) -> Area
     }
 }
 
-pub fn at_of(c: HostCall) -> Point
+fn at_of(c: HostCall) -> Point
     ensures { λ r. ⌜ r ≡ atOf c ⌝ }
 {
     Point { x: c.x, y: c.y }
 }
 
-pub fn from_of(c: HostCall) -> Point
+fn from_of(c: HostCall) -> Point
     ensures { λ r. ⌜ r ≡ fromOf c ⌝ }
 {
     Point {
@@ -143,46 +127,5 @@ pub fn call_of(c: HostCall) -> CallRead
             rop: c.a,
         }),
         _ => CallRead::NoCall,
-    }
-}
-
-// An answer without an object.
-fn plain(refusal: u32, value: u32, flag: bool) -> Reply
-    ensures { λ r. ⌜ r ≡ plainReply refusal value flag ⌝ }
-{
-    Reply {
-        refusal: refusal,
-        value: value,
-        flag: flat::flag_number(flag),
-        kind: NO_OBJECT,
-        fields: [0; 12],
-    }
-}
-
-// An answer as numbers.
-pub fn reply_of(answer: Answer) -> Reply
-    ensures { λ r. ⌜ Replied answer r ⌝ }
-{
-    match answer {
-        Answer::Refused(no) => plain(no, 0, false),
-        Answer::Handle(h) => plain(0, h, false),
-        Answer::Deleted(f) => plain(0, 0, f),
-        Answer::Removed(o) => {
-            let mut fields = [0u32; 12];
-            let kind = flat::put_object(&mut fields, o);
-            Reply {
-                refusal: 0,
-                value: 0,
-                flag: 0,
-                kind: kind,
-                fields: fields,
-            }
-        }
-        Answer::NotRemoved => plain(0, 0, false),
-        Answer::OldColor(c) => plain(0, c.0, false),
-        Answer::OldAlign(n) => plain(0, n, false),
-        Answer::OldMode(f) => plain(0, 0, f),
-        Answer::Drawn => plain(0, 0, false),
-        Answer::Advance(n) => plain(0, n, false),
     }
 }

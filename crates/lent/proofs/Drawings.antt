@@ -17,8 +17,8 @@ use Rattle.fill.specs.Fill.{filled, filledRop, fillMarks}
 use Rattle.outline.specs.Outline.{outlined, outlineMarks}
 use Rattle.blit.specs.Blit.{blitOf, marks, blitFrom}
 use Rattle.text.specs.Ink.{textInk, unitCount, textRefusal}
-use Rattle.lent.proofs.Param.{int, number, colour, slice}
-use Rattle.lent.proofs.Operation.{Answer, Operation}
+use Rattle.lent_surface.proofs.Param.{int, number, colour, slice}
+use Rattle.lent_surface.proofs.Operation.{Answer, Operation}
 
 abbrev drawn : Answer
 drawn = record { row = D.the-row; ty = D′.mir; typed = λ 𝓤 H A W r v is. LL.lawful D.the-type D′.the-laws 𝓤 H A W .typed r _ is .0 }

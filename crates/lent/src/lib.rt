@@ -1,5 +1,5 @@
-// A surface as one value: its pixel bytes, lent, with its sides. Each operation on it takes it apart and calls the function on
-// slice and numbers. Those whose name ends in `_on` make the surface themselves, for callers that have its parts.
+// The operations on a surface that is one value. Each takes it apart and calls the function on slice and numbers. Those whose name ends in `_on` make the surface themselves, for callers that have its parts.
+pub use lent_surface::Surface;
 ghost use mathlib.Core.Path.{_≡_};
 ghost use Prim.Native.Nat.{_*_};
 ghost use lib.ListN.{length};
@@ -11,13 +11,6 @@ ghost use Rattle.fill.specs.Fill.{filled, filledRop, fillMarks};
 ghost use Rattle.outline.specs.Outline.{outlined, outlineMarks};
 ghost use Rattle.blit.specs.Blit.{blitOf, marks, blitFrom};
 ghost use Rattle.text.specs.Ink.{textInk, unitCount, textRefusal};
-
-// A surface: its pixel bytes, lent, with its sides.
-pub struct Surface<'a> {
-    pub pixels: &'a mut [u8],
-    pub width: u32,
-    pub height: u32,
-}
 
 // The w by h pixels at x, y in one colour.
 pub fn fill_rect<'a>(
@@ -62,7 +55,7 @@ pub fn fill_rect_rop<'a>(
     ensures { λ r. ⌜ r ≡ drew (refusal (s .entry .width) (s .entry .height) (length (now (s .entry .pixels)))) (fillMarks (s .entry .width) (s .entry .height) x y w h) ⌝ }
     ensures bytes { λ _. ⌜ now (s .exit .0) ≡ unlessRefused (refusal (s .entry .width) (s .entry .height) (length (now (s .entry .pixels)))) (filledRop (s .entry .width) x y w h (tableOf rop) (pat .0) (now (s .entry .pixels))) (now (s .entry .pixels)) ⌝ }
 {
-    fill::fill_rect_rop(&mut *s.pixels, s.width, s.height, x, y, w, h, pat, rop)
+    fill_rop::fill_rect_rop(&mut *s.pixels, s.width, s.height, x, y, w, h, pat, rop)
 }
 
 // Pattern, source and destination under a raster code, at the w by h pixels at dx, dy; the source pixels are those at sx, sy of

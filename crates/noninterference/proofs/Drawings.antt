@@ -7,8 +7,8 @@ use native.Mathlib.Omega.{arith}
 use borrow.Author.Tests.{lt-ltb}
 use Rattle.laws.proofs.Test.{both, together}
 use Rattle.rop3.specs.Rop3.{tableOf}
-use Rattle.clip.specs.Blit.{drawn}
-use Rattle.clip.proofs.Blit.{drawn-source}
+use Rattle.clip_blit.specs.Blit.{drawn}
+use Rattle.clip_blit.proofs.Blit.{drawn-source}
 use Rattle.surface.specs.Refusal.{side}
 use Rattle.gdi.specs.declared.GdiState.{GdiState}
 use Rattle.gdi.specs.Record.{size}

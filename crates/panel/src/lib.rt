@@ -12,6 +12,9 @@ use place::SurfaceId;
 use plan::Answer;
 use plan::Outcome;
 
+// The refusal of a size that does not fit the panel memory.
+pub const PANEL_TOO_SHORT: u32 = 7;
+
 // The whole panel in one colour.
 pub fn fill(state: GdiState, panel: &mut [u8], color: Rgb565) -> Outcome
     requires { ⌜ isSound state ≡ true ⌝ }
@@ -19,7 +22,7 @@ pub fn fill(state: GdiState, panel: &mut [u8], color: Rgb565) -> Outcome
     ensures { λ r. ⌜ DoneOnPanel (panelFill state (color .0)) state (now (panel .entry)) r (now (panel .exit)) ⌝ }
 {
     let n = (state.width * state.height) as usize;
-    words::fill_run(panel, 0, n, color.0);
+    runs::fill_run(panel, 0, n, color.0);
     let after = dirty::mark_dirty(state, SurfaceId::Panel);
     Outcome {
         state: after,
@@ -55,7 +58,7 @@ pub fn resize(state: GdiState, panel: &mut [u8], width: u32, height: u32) -> Out
     if state.panel_len < n {
         return Outcome {
             state: state,
-            answer: Answer::Refused(7),
+            answer: Answer::Refused(PANEL_TOO_SHORT),
         };
     }
     memory::zero(panel, 0, n);
@@ -70,7 +73,7 @@ pub fn resize(state: GdiState, panel: &mut [u8], width: u32, height: u32) -> Out
 }
 
 // Whether a resize from these sides does nothing.
-fn no_effect(width: u32, height: u32, present_w: u32, present_h: u32) -> bool
+pub fn no_effect(width: u32, height: u32, present_w: u32, present_h: u32) -> bool
     ensures { λ r. ⌜ r ≡ ((eqb width 0 || eqb height 0) || (eqb width «present_w» && eqb height «present_h»)) ⌝ }
 {
     if width == 0 {

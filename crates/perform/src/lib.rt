@@ -50,7 +50,7 @@ pub fn perform(
             rop,
         ),
         Call::Rectangle { dc, area } => draw::rectangle(state, panel, store, dc, area),
-        Call::Text { dc, at } => draw::text_out(state, panel, store, units, dc, at),
+        Call::Text { dc, at } => draw_text::text_out(state, panel, store, units, dc, at),
         Call::PanelFill(color) => panel::fill(state, panel, color),
         Call::Resize { width, height } => panel::resize(state, panel, width, height),
         Call::Blit {

@@ -40,7 +40,7 @@ fn write_row(pixels: &[u8], first: usize, w: usize)
 {
     let mut bytes = [0u8; 12_288];
     for k in 0..w {
-        snapshot::put_rgb(&mut bytes, 3 * k, words::word_at(pixels, first + k));
+        samples::put_rgb(&mut bytes, 3 * k, words::word_at(pixels, first + k));
     }
     let end = 3 * w;
     io::write_all(STDOUT_FILENO, &bytes[0..end]);

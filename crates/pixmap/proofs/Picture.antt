@@ -11,9 +11,11 @@ use lib.Seq.{take-all}
 use borrow.Author.Tests.{leb-true, eqb-true, ne-eqb}
 use Rattle.laws.proofs.Test.{both, not-left, not-right}
 use Rattle.bigendian.specs.BigEndian.{be16}
-use Rattle.snapshot.specs.Snapshot.{put, ppmOf, ppmLength}
-use Rattle.snapshot.proofs.Pixels.{length-ppm}
-use Rattle.snapshot.proofs.Decimal.{length-header, three-digits}
+use Rattle.p6.specs.P6.{ppmLength}
+use Rattle.p6.specs.Put.{put}
+use Rattle.samples.specs.Samples.{ppmOf}
+use Rattle.samples.proofs.Pixels.{length-ppm}
+use Rattle.p6.proofs.Decimal.{length-header, three-digits}
 use Rattle.pixmap.specs.Pixmap.{served, isPicture, noPicture, pictureOf}
 
 -- An input that is a picture.

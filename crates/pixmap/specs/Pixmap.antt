@@ -5,7 +5,7 @@ use Prim.Native.Nat.{ℕ, _+_, _*_}
 use lib.Dec.{eqb, leb}
 use lib.ListN.{length, drop}
 use Rattle.bigendian.specs.BigEndian.{be16}
-use Rattle.snapshot.specs.Snapshot.{ppmOf}
+use Rattle.samples.specs.Samples.{ppmOf}
 
 -- a side: 1 to 144
 abbrev pub served : ℕ → Bool

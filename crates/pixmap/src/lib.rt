@@ -4,7 +4,7 @@ ghost use mathlib.Core.Bool.{true};
 ghost use Prim.Native.Nat.{_≤_};
 ghost use lib.ListN.{length};
 ghost use Rattle.pixmap.specs.Pixmap.{served, isPicture, pictureOf};
-ghost use Rattle.snapshot.specs.Snapshot.{put};
+ghost use Rattle.p6.specs.Put.{put};
 
 // The longest side that is served.
 const LONGEST_SIDE: u16 = 144;
@@ -25,7 +25,7 @@ pub fn write_picture(input: &[u8], out: &mut [u8]) -> usize
     if is_picture(input) {
         return write_pixels(input, out);
     }
-    snapshot::put_bytes(out, 0, b"no picture\n")
+    p6::put_bytes(out, 0, b"no picture\n")
 }
 
 // The same for an input that is a picture.
@@ -37,8 +37,8 @@ fn write_pixels(input: &[u8], out: &mut [u8]) -> usize
 {
     let width = bigendian::read_u16(input, 0) as u32;
     let height = bigendian::read_u16(input, 2) as u32;
-    let n = snapshot::ppm_len(width, height);
-    snapshot::write_ppm(&input[4..], width, height, &mut out[0..n]);
+    let n = p6::ppm_len(width, height);
+    samples::write_ppm(&input[4..], width, height, &mut out[0..n]);
     n
 }
 

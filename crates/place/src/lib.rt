@@ -90,7 +90,7 @@ pub fn target_of(state: GdiState, dc: u32) -> Target
     requires { ⌜ isSound state ≡ true ⌝ }
     ensures { λ r. ⌜ r ≡ targetOf state dc ⌝ }
 {
-    match gdi::find_dc(state, dc) {
+    match lookup::find_dc(state, dc) {
         DcFound::Is(p, d) => match p {
             Spot::Screen => Target::On(SurfaceId::Panel, d),
             Spot::Created(_) => {

@@ -5,7 +5,7 @@ use Prim.Native.Nat.{ℕ, _*_}
 use lib.Dec.{leb, ltb}
 use Rattle.laws.specs.Integer.{positive}
 use Rattle.rop3.specs.Rop3.{tableOf, usesSrc}
-use Rattle.clip.specs.Blit.{sourceAt, drawnAt}
+use Rattle.clip_blit.specs.Blit.{sourceAt, drawnAt}
 use Rattle.color.specs.Color.{packed}
 use Rattle.color.specs.declared.Colorref.{Colorref}
 use Rattle.surface.specs.Region.{box}

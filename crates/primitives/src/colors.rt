@@ -74,9 +74,9 @@ fn convert(kind: u8, c: &[u8]) -> Reply
 // A word as case 03 or 04 converts it.
 fn converted(kind: u8, v: u16) -> u16 {
     if kind == 0x03 {
-        return color::rgb555_to_rgb565(Rgb555(v)).0;
+        return rgb555::rgb555_to_rgb565(Rgb555(v)).0;
     }
-    color::rgb565_to_rgb555(Rgb565(v)).0
+    rgb555::rgb565_to_rgb555(Rgb565(v)).0
 }
 
 // Case 05: a raster operation on single words.
@@ -120,7 +120,7 @@ fn glyph(c: &[u8]) -> Reply
     }
     Reply {
         size: 2,
-        line: with_rows(line::start(0x06).space(), font::glyph(index as usize)),
+        line: with_rows(line::start(0x06).space(), font_table::glyph(index as usize)),
     }
 }
 
@@ -170,7 +170,7 @@ fn widened_crc(block: u8) -> u32 {
     let mut bytes = [0u8; 768];
     let first = 256 * (block as u16);
     for k in 0u16..256 {
-        snapshot::put_rgb(&mut bytes, 3 * (k as usize), first + k);
+        samples::put_rgb(&mut bytes, 3 * (k as usize), first + k);
     }
     crc32::crc32(&bytes)
 }

@@ -164,7 +164,7 @@ pub fn fill_words(mem: &mut [u8], n: usize, seed: u32)
     requires { ⌜ 2 * n ≤ length (now mem) ⌝ }
 {
     if seed == 0 {
-        words::zero_run(mem, 0, n);
+        runs::zero_run(mem, 0, n);
     } else {
         generate_words(mem, n, seed);
     }

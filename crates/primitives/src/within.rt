@@ -99,7 +99,7 @@ fn blitted(
     let r = drawing::read_route(c, args);
     let code = bigendian::read_u32(c, args + 24);
     let pattern = Rgb565(bigendian::read_u16(c, args + 28));
-    blit::blit_within(
+    blit_within::blit_within(
         mem,
         at,
         dst.w,

@@ -1,17 +1,15 @@
-// Runs of words under a raster code, given by its table byte: without a source, with a source in another memory, and with one
-// in the same memory. PATCOPY, DSTINVERT and SRCCOPY have plain loops, which leave the same.
+// Runs of words under a raster code, given by its table byte, without a source. PATCOPY and DSTINVERT have plain loops, which
+// leave the same.
 ghost use mathlib.Core.Path.{_≡_};
-ghost use Prim.Native.Nat.{_≤_, _*_, _+_, _-_};
+ghost use Prim.Native.Nat.{_≤_, _*_, _+_};
 ghost use lib.ListN.{length};
 ghost use Rattle.laws.specs.Interval.{between};
-ghost use Rattle.words.specs.Words.{painted, word};
+ghost use Rattle.words.specs.Words.{painted};
 ghost use Rattle.raster.specs.Raster.{ropped};
 
 const PATCOPY_TABLE: u8 = 0xF0;
 
 const DSTINVERT_TABLE: u8 = 0x55;
-
-const SRCCOPY_TABLE: u8 = 0xCC;
 
 // Pattern and destination under a table, at the n words from d on. The source operand is 0.
 pub fn rop_run(mem: &mut [u8], d: usize, n: usize, table: u8, pat: u16)
@@ -19,36 +17,11 @@ pub fn rop_run(mem: &mut [u8], d: usize, n: usize, table: u8, pat: u16)
     ensures { λ _. ⌜ now (mem .exit) ≡ painted (between d (d + n)) (ropped table pat (λ _. 0) (now (mem .entry))) (now (mem .entry)) ⌝ }
 {
     if table == PATCOPY_TABLE {
-        words::fill_run(mem, d, n, pat);
+        runs::fill_run(mem, d, n, pat);
     } else if table == DSTINVERT_TABLE {
-        words::invert_run(mem, d, n);
+        runs::invert_run(mem, d, n);
     } else {
         combine_run(mem, d, n, table, pat);
-    }
-}
-
-// Pattern, the words of src from s on, and destination under a table, at the n words of dst from d on.
-pub fn rop_run_from(dst: &mut [u8], src: &[u8], d: usize, s: usize, n: usize, table: u8, pat: u16)
-    requires { ⌜ (2 * (d + n) ≤ length (now dst)) × (2 * (s + n) ≤ length (now src)) ⌝ }
-    ensures { λ _. ⌜ now (dst .exit) ≡ painted (between d (d + n)) (ropped table pat (λ i. word (now (src .entry)) (s + (i - d))) (now (dst .entry))) (now (dst .entry)) ⌝ }
-{
-    if table == SRCCOPY_TABLE {
-        words::copy_run(dst, src, d, s, n);
-    } else {
-        combine_run_from(dst, src, d, s, n, table, pat);
-    }
-}
-
-// The same with both in one memory. The source words are those before the call, however the two overlap. A row has at most
-// 4,096 words.
-pub fn rop_run_within(mem: &mut [u8], d: usize, s: usize, n: usize, table: u8, pat: u16)
-    requires { ⌜ (n ≤ 4096) × ((2 * (d + n) ≤ length (now mem)) × (2 * (s + n) ≤ length (now mem))) ⌝ }
-    ensures { λ _. ⌜ now (mem .exit) ≡ painted (between d (d + n)) (ropped table pat (λ i. word (now (mem .entry)) (s + (i - d))) (now (mem .entry))) (now (mem .entry)) ⌝ }
-{
-    if table == SRCCOPY_TABLE {
-        words::move_run(mem, d, s, n);
-    } else {
-        combine_run_within(mem, d, s, n, table, pat);
     }
 }
 
@@ -61,26 +34,4 @@ fn combine_run(mem: &mut [u8], d: usize, n: usize, table: u8, pat: u16)
         let old = words::word_at(mem, d + k);
         words::set_word(mem, d + k, rop3::apply_table(table, pat, 0, old));
     }
-}
-
-// The loop of rop_run_from for any table.
-fn combine_run_from(dst: &mut [u8], src: &[u8], d: usize, s: usize, n: usize, table: u8, pat: u16)
-    requires { ⌜ (2 * (d + n) ≤ length (now dst)) × (2 * (s + n) ≤ length (now src)) ⌝ }
-    ensures { λ _. ⌜ now (dst .exit) ≡ painted (between d (d + n)) (ropped table pat (λ i. word (now (src .entry)) (s + (i - d))) (now (dst .entry))) (now (dst .entry)) ⌝ }
-{
-    for k in 0..n {
-        let from = words::word_at(src, s + k);
-        let old = words::word_at(dst, d + k);
-        words::set_word(dst, d + k, rop3::apply_table(table, pat, from, old));
-    }
-}
-
-// rop_run_within for any table: the source row goes by way of a buffer.
-fn combine_run_within(mem: &mut [u8], d: usize, s: usize, n: usize, table: u8, pat: u16)
-    requires { ⌜ (n ≤ 4096) × ((2 * (d + n) ≤ length (now mem)) × (2 * (s + n) ≤ length (now mem))) ⌝ }
-    ensures { λ _. ⌜ now (mem .exit) ≡ painted (between d (d + n)) (ropped table pat (λ i. word (now (mem .entry)) (s + (i - d))) (now (mem .entry))) (now (mem .entry)) ⌝ }
-{
-    let mut row = [0u8; 8192];
-    words::copy_run(&mut row, mem, 0, s, n);
-    combine_run_from(mem, &row, d, 0, n, table, pat);
 }

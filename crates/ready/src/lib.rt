@@ -13,7 +13,7 @@ pub const OTHER_LENGTH: u32 = 8;
 pub fn common_refusal(state: GdiState, panel_len: usize, store_len: usize) -> u32
     ensures { λ r. ⌜ r ≡ commonRefusal state «panel_len» «store_len» ⌝ }
 {
-    if sound::is_sound(state) {
+    if record_check::is_sound(state) {
         if panel_len != state.panel_len {
             return OTHER_LENGTH;
         }

@@ -79,18 +79,18 @@ pub fn select_into(state: GdiState, dc: u32, object: u32) -> Outcome
     requires { ⌜ state .count ≤ 256 ⌝ }
     ensures { λ r. ⌜ r ≡ selectInto state dc object .outcome ⌝ }
 {
-    let k = gdi::find_kind(state, object);
+    let k = lookup::find_kind(state, object);
     if let Kind::Other = k {
         return Outcome {
             state: state,
             answer: Answer::Handle(0),
         };
     }
-    match gdi::find_dc(state, dc) {
+    match lookup::find_dc(state, dc) {
         DcFound::Is(p, d) => {
             let old = selected(d, k);
             let e = select_in(d, object, k);
-            let after = gdi::store_dc(state, dc, p, e);
+            let after = lookup::store_dc(state, dc, p, e);
             Outcome {
                 state: after,
                 answer: Answer::Handle(old),

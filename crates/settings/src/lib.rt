@@ -15,12 +15,12 @@ pub fn set_text_color(state: GdiState, dc: u32, color: Colorref) -> Outcome
     requires { ⌜ state .count ≤ 256 ⌝ }
     ensures { λ r. ⌜ r ≡ setTextColor state dc color .outcome ⌝ }
 {
-    match gdi::find_dc(state, dc) {
+    match lookup::find_dc(state, dc) {
         DcFound::Is(p, d) => {
             let set = dc_mut::with_text_color(d, color);
             let recolored = set.dc;
             let old_color = set.old;
-            let after = gdi::store_dc(state, dc, p, recolored);
+            let after = lookup::store_dc(state, dc, p, recolored);
             Outcome {
                 state: after,
                 answer: Answer::OldColor(old_color),
@@ -37,11 +37,11 @@ pub fn set_text_align(state: GdiState, dc: u32, align: u32) -> Outcome
     requires { ⌜ state .count ≤ 256 ⌝ }
     ensures { λ r. ⌜ r ≡ setTextAlign state dc align .outcome ⌝ }
 {
-    match gdi::find_dc(state, dc) {
+    match lookup::find_dc(state, dc) {
         DcFound::Is(p, d) => {
             let set = dc_mut::with_text_align(d, align);
             let realigned = set.dc;
-            let after = gdi::store_dc(state, dc, p, realigned);
+            let after = lookup::store_dc(state, dc, p, realigned);
             Outcome {
                 state: after,
                 answer: Answer::OldAlign(set.old),
@@ -58,12 +58,12 @@ pub fn set_bk_color(state: GdiState, dc: u32, color: Colorref) -> Outcome
     requires { ⌜ state .count ≤ 256 ⌝ }
     ensures { λ r. ⌜ r ≡ setBkColor state dc color .outcome ⌝ }
 {
-    match gdi::find_dc(state, dc) {
+    match lookup::find_dc(state, dc) {
         DcFound::Is(p, d) => {
             let set = dc_mut::with_bk_color(d, color);
             let regrounded = set.dc;
             let old_ground = set.old;
-            let after = gdi::store_dc(state, dc, p, regrounded);
+            let after = lookup::store_dc(state, dc, p, regrounded);
             Outcome {
                 state: after,
                 answer: Answer::OldColor(old_ground),
@@ -80,11 +80,11 @@ pub fn set_bk_mode(state: GdiState, dc: u32, transparent: bool) -> Outcome
     requires { ⌜ state .count ≤ 256 ⌝ }
     ensures { λ r. ⌜ r ≡ setBkMode state dc transparent .outcome ⌝ }
 {
-    match gdi::find_dc(state, dc) {
+    match lookup::find_dc(state, dc) {
         DcFound::Is(p, d) => {
             let set = dc_mut::with_bk_mode(d, transparent);
             let remoded = set.dc;
-            let after = gdi::store_dc(state, dc, p, remoded);
+            let after = lookup::store_dc(state, dc, p, remoded);
             Outcome {
                 state: after,
                 answer: Answer::OldMode(set.old),

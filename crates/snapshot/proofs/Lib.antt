@@ -1,5 +1,1 @@
-pub mod P6
-pub mod Put
-pub mod Decimal
-pub mod Pixels
 pub mod Refusal

@@ -1,2 +1,1 @@
-pub mod P6
 pub mod Snapshot

@@ -31,7 +31,7 @@ pub extern "C" fn ravinefork_fill_rect(
     fill::fill_rect(pixels, width, height, x, y, w, h, color::Rgb565(color))
 }
 
-// fill::fill_rect_rop
+// fill_rop::fill_rect_rop
 #[no_mangle]
 pub extern "C" fn ravinefork_fill_rect_rop(
     pixels: &mut [u8],
@@ -47,7 +47,7 @@ pub extern "C" fn ravinefork_fill_rect_rop(
     ensures { λ r. ⌜ r ≡ drew (refusal width height (length (now (pixels .entry)))) (fillMarks width height x y w h) ⌝ }
     ensures bytes { λ _. ⌜ now (pixels .exit) ≡ unlessRefused (refusal width height (length (now (pixels .entry)))) (filledRop width x y w h (tableOf rop) pat (now (pixels .entry))) (now (pixels .entry)) ⌝ }
 {
-    fill::fill_rect_rop(pixels, width, height, x, y, w, h, color::Rgb565(pat), rop)
+    fill_rop::fill_rect_rop(pixels, width, height, x, y, w, h, color::Rgb565(pat), rop)
 }
 
 // outline::stroke_rect

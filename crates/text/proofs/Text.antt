@@ -16,9 +16,10 @@ use Rattle.clip.proofs.Clip.{covers-parts}
 use Rattle.font.specs.Font.{inked}
 use Rattle.font.proofs.Columns.{five-columns}
 use Rattle.surface.specs.Region.{box}
-use Rattle.text.specs.Ink.{past, printable, glyphInk, charInk, glyphFor, textInk}
+use Rattle.text.specs.Ink.{printable, glyphInk, charInk, glyphFor, textInk}
 use Rattle.text.specs.Parts.{Reached}
-use Rattle.text.proofs.Reach.{plus-zero, past-parts}
+use Rattle.glyph.specs.Parts.{past}
+use Rattle.glyph.proofs.Reach.{plus-zero, past-parts}
 
 -- a character
 pub char-in : (x y : ℤ) (ch c r : ℕ) → printable ch ≡ true → glyphInk (x +ℤ pos 0) y (ch - 0x20) c r ≡ charInk x y ch c r

@@ -3,16 +3,12 @@ use mathlib.Core.Bool.{Bool, _&&_, cond}
 use mathlib.Core.List.{List, [], _∷_}
 use Prim.Native.Nat.{ℕ, suc, _-_, _*_}
 use lib.Dec.{leb, eqb}
-use lib.IntN.{ℤ, pos, _+ℤ_, _-ℤ_}
+use lib.IntN.{ℤ, pos, _+ℤ_}
 use lib.ListN.{getD}
-use Rattle.laws.specs.Integer.{positive}
 use Rattle.laws.specs.Test.{anyBelow}
 use Rattle.font.specs.Font.{inked}
 use Rattle.surface.specs.Region.{box}
-
--- how far the coordinate c lies past z
-abbrev pub past : ℤ → ℕ → ℕ
-past z c = positive (pos c -ℤ z)
+use Rattle.glyph.specs.Parts.{past}
 
 -- the ink of glyph g with its upper left corner at x, y: eight rows, bit 7 leftmost
 abbrev pub glyphInk : (x y : ℤ) → (g c r : ℕ) → Bool

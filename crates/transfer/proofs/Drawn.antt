@@ -22,8 +22,8 @@ use Rattle.words.proofs.Painted.{painted-same, painted-none}
 use Rattle.words.proofs.Parts.{length-part, part-painted}
 use Rattle.rop3.specs.Rop3.{applied}
 use Rattle.clip.specs.Clip.{covers}
-use Rattle.clip.specs.Blit.{sourceAt, inside, drawn, drawnAt}
-use Rattle.clip.proofs.Blit.{drawn-source}
+use Rattle.clip_blit.specs.Blit.{sourceAt, inside, drawn, drawnAt}
+use Rattle.clip_blit.proofs.Blit.{drawn-source}
 use Rattle.surface.specs.Region.{wordsOf}
 use Rattle.blit.specs.Blit.{Blit, region, marks, sourceWord, blitFrom, blitWithin, Placed}
 use Rattle.blit.proofs.From.{all-rows-held}

@@ -6,7 +6,7 @@ use Prim.Native.Nat.{ℕ, _+_, _*_, _/_, _%_, _≤_}
 use Rattle.laws.specs.Integer.{positive}
 use Rattle.words.specs.Words.{painted, word}
 use Rattle.rop3.specs.Rop3.{applied}
-use Rattle.clip.specs.Blit.{sourceAt, drawnAt}
+use Rattle.clip_blit.specs.Blit.{sourceAt, drawnAt}
 use Rattle.surface.specs.Region.{wordsOf}
 use Rattle.gdi.specs.Record.{size}
 use Rattle.place.specs.declared.Memory.the-variants.{Panel, Store}

@@ -157,7 +157,7 @@ fn blit_inside(
     ensures { λ r. ⌜ r ≡ marks (blitOf width height (area .x) (area .y) (from .x) (from .y) (area .w) (area .h) «src_w» «src_h») ⌝ }
     ensures bytes { λ _. ⌜ now (mem .exit) ≡ withPart (now (mem .entry)) p (size width height) (blitPart area from (tableOf rop) (pat .0) (part (now (mem .entry)) q (size «src_w» «src_h»)) «src_w» «src_h» width (part (now (mem .entry)) p (size width height))) ⌝ }
 {
-    blit::blit_within(
+    blit_within::blit_within(
         mem,
         p / 2,
         width,

@@ -1,4 +1,3 @@
 pub mod Written
 pub mod Painted
-pub mod Runs
 pub mod Parts

@@ -34,17 +34,21 @@ enum Call {
     SetTextColor,
     Select,
     CreateDelete,
+    PanelFill,
     PatternFill,
+    Rectangle,
     Blit,
     Text,
 }
 
 /// The rows; creation and deletion are two calls.
-const ROWS: [(&str, Call); 6] = [
+const ROWS: [(&str, Call); 8] = [
     ("set text colour", Call::SetTextColor),
     ("select", Call::Select),
     ("create a brush, delete it (both)", Call::CreateDelete),
+    ("panel fill 240×320", Call::PanelFill),
     ("pattern fill PATCOPY 100×100", Call::PatternFill),
+    ("rectangle 100×100", Call::Rectangle),
     ("blit SRCCOPY 100×100", Call::Blit),
     ("text, 8 units", Call::Text),
 ];
@@ -110,9 +114,11 @@ impl Host {
                 bench.delete(black_box(handle))?;
                 handle.0
             }
+            Call::PanelFill => bench.panel_fill(Rgb565(black_box(i as u16))).map(|()| 0)?,
             Call::PatternFill => {
                 bench.pattern_fill(screen, area, black_box(rop3::PATCOPY)).map(|()| 0)?
             }
+            Call::Rectangle => bench.rectangle(screen, black_box(area)).map(|()| 0)?,
             Call::Blit => {
                 let from = Point { x: 0, y: 0 };
                 bench.blit(screen, area, dc, from, black_box(rop3::SRCCOPY)).map(|()| 0)?
@@ -185,10 +191,21 @@ impl Scene for Original {
                 gdi.delete(black_box(handle));
                 handle
             }
+            Call::PanelFill => {
+                panel.fill(black_box(i as u16));
+                0
+            }
             Call::PatternFill => {
                 let [brush, ..] = colors(gdi, GDI_SCREEN_DC);
                 let mut surface = Surface::Screen(panel);
                 surface.fill_rect_rop(x, y, w, h, brush, black_box(rop3::PATCOPY));
+                0
+            }
+            Call::Rectangle => {
+                let [brush, pen, _] = colors(gdi, GDI_SCREEN_DC);
+                let mut surface = Surface::Screen(panel);
+                surface.fill_rect(x, y, w, h, brush);
+                surface.stroke_rect(x, y, w, h, pen);
                 0
             }
             Call::Blit => {
@@ -230,12 +247,22 @@ impl Scene for Pixels {
         Pixels { panel, bitmap, colors: colors(&gdi, GDI_SCREEN_DC), units }
     }
 
-    fn call(&mut self, call: Call, _: u32) -> u32 {
-        let [brush, _, color] = self.colors;
+    fn call(&mut self, call: Call, i: u32) -> u32 {
+        let [brush, pen, color] = self.colors;
         let [x, y, ..] = AREA;
         match call {
+            Call::PanelFill => {
+                let [width, height] = PANEL.map(|side| side as i32);
+                self.panel.fill_rect([0, 0, width, height], black_box(i as u16));
+                0
+            }
             Call::PatternFill => {
                 self.panel.fill_rect_rop(AREA, brush, black_box(rop3::PATCOPY));
+                0
+            }
+            Call::Rectangle => {
+                self.panel.fill_rect(AREA, brush);
+                self.panel.stroke_rect(AREA, pen);
                 0
             }
             Call::Blit => {
@@ -254,7 +281,7 @@ impl Scene for Pixels {
 
 impl Call {
     fn draws(self) -> bool {
-        matches!(self, Call::PatternFill | Call::Blit | Call::Text)
+        !matches!(self, Call::SetTextColor | Call::Select | Call::CreateDelete)
     }
 
     /// The brushes that a scene begins with, beside the DC, the bitmap and the

@@ -1,8 +1,10 @@
 -- `flat::object_of` meets its contract. Assumes nothing.
-use mathlib.Core.Path.{_∙_}
+use mathlib.Core.Path.{sym, _∙_, ap}
+use lib.IntN.{ℤ}
 use borrow.Author.Needs.{needs}
 use Rattle.laws.proofs.Machine.{stored32}
-use Rattle.flat.proofs.Block.{as-brush, as-pen, as-font}
+use Rattle.gdi.specs.declared.GdiObject.the-variants.{Font}
+use Rattle.flat.proofs.Seen.{object-brush, object-pen, object-font}
 use Rattle.flat.specs.Block.{objectOf}
 use Rattle.flat.proofs.object_of.Statement.{statement}
 use Rattle.flat.proofs.object_of.Tie as tie
@@ -43,13 +45,13 @@ unfolding objectOf
 returns-2 c = rw (c .before .before .before .match .keys2)
 
 returns-3 : tie.Need-returns-3
-returns-3 c = as-brush _ _ (c .before .match .keys3)
+returns-3 c = sym (object-brush _ _ (c .before .match .keys3))
 
 returns-4 : tie.Need-returns-4
-returns-4 c = as-pen _ _ (c .before .before .match .keys4)
+returns-4 c = sym (object-pen _ _ (c .before .before .match .keys4))
 
 returns-5 : tie.Need-returns-5
-returns-5 c = let s = c .before .before in as-font _ _ (s .match .rest .0 .0 .0 .1) (s .match .rest .0 .0 .1) (s .match .rest .0 .1) (s .match .rest .1) (stored32 (c .signed .result) (record { sfits = c .signed .ok }) ∙ c .signed .ensures)
+returns-5 c = let s = c .before .before in ap (λ (z : ℤ). Font (record { height = z })) (stored32 (c .signed .result) (record { sfits = c .signed .ok }) ∙ c .signed .ensures) ∙ sym (object-font _ _ (s .match .rest .0 .0 .0 .1) (s .match .rest .0 .0 .1) (s .match .rest .0 .1) (s .match .rest .1))
 
 pub object-of-spec : {M : Type 1} → statement M
 object-of-spec =

@@ -20,7 +20,7 @@ add-kind-at : tie.Need-add-kind-at
 add-kind-at c = omega (arith, found-room _ (c .before .before .before .before .before .pre) _ (c .before .before .before .find .ensures) (c .before .i .given .1))
 
 kind-at-requires : tie.Need-kind-at-requires
-kind-at-requires c κs = found-room _ (c .before .before .before .before .before .pre) _ (c .before .before .before .find .ensures) (c .before .i .given .1)
+kind-at-requires c κs = omega (arith, found-room _ (c .before .before .before .before .before .pre) _ (c .before .before .before .find .ensures) (c .before .i .given .1))
 
 enum-told : tie.Need-enum-told
 enum-told c = search needs

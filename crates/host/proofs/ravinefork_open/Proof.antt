@@ -1,4 +1,5 @@
 -- `host::ravinefork_open` meets its contract. Assumes nothing.
+use native.Mathlib.Omega.{arith}
 use denote.Ref.{now}
 use borrow.Author.Needs.{needs}
 use Rattle.paint.specs.Memories.{memories}
@@ -7,7 +8,7 @@ use Rattle.host.proofs.ravinefork_open.Statement.{statement}
 use Rattle.host.proofs.ravinefork_open.Tie as tie
 
 returns : tie.Need-returns
-returns c = let s = c .before .before .before .before in no-numbers (s .args .width) (s .args .height) (now (s .args .numbers)) (memories (now (s .args .panel)) (now (s .args .store))) (c .if1 .taken)
+returns c = let s = c .before .before .before .before in no-numbers (s .args .width) (s .args .height) (now (s .args .numbers)) (memories (now (s .args .panel)) (now (s .args .store))) (λ e. omega (arith, c .if1 .taken))
 
 open-on-requires : tie.Need-open-on-requires
 open-on-requires c κs = search needs

@@ -7,7 +7,7 @@ use borrow.Author.Tests.{not-true, not-false}
 use borrow.Author.Needs.{needs}
 use Rattle.snapshot.specs.Snapshot.{rgbaOf, rgbaLength}
 use Rattle.flat.proofs.Record.{parts}
-use Rattle.host.proofs.Snapshots.{no-snapshot, snapshot-number, snapshot-bytes}
+use Rattle.host.proofs.Snapshots.{snapshot-number, snapshot-bytes}
 use Rattle.host.proofs.ravinefork_snapshot_rgba8888.Statement.{statement}
 use Rattle.host.proofs.ravinefork_snapshot_rgba8888.Tie as tie
 
@@ -15,7 +15,7 @@ is-record-requires : tie.Need-is-record-requires
 is-record-requires c κs = search needs
 
 returns : tie.Need-returns
-returns c = let s = c .before .before .before .before .before in (no-snapshot (now (s .args .numbers)) (c .before .is-record .ensures) (length (now (s .args .panel))) (length (now (s .args .out))) rgbaLength (not-true _ (c .if1 .taken)), refl)
+returns c = (rw (sym (c .before .is-record .ensures) ∙ not-true _ (c .if1 .taken)), refl)
 
 decode-requires : tie.Need-decode-requires
 decode-requires c κs = let p = parts (now (c .before .before .before .before .before .args .numbers)) (sym (c .before .is-record .ensures) ∙ not-false _ (c .if1 .left)) in (p .long, p .few)

@@ -1,4 +1,5 @@
 -- `host_call::call_of` meets its contract. Assumes nothing.
+use native.Mathlib.Omega.{arith}
 use borrow.Author.Tests.{lt-leb, le-leb, ne-eqb}
 use borrow.Author.Needs.{needs}
 use Rattle.laws.proofs.Machine.{stored32}
@@ -17,11 +18,11 @@ from-of-requires c κs = search needs
 
 returns : tie.Need-returns
 unfolding callOf
-returns c = rw (c .before .before .match .keys12, lt-leb (c .before .before .before .before .before .before .args .c .a) 1 (c .if1 .taken))
+returns c = rw (c .before .before .match .keys12, lt-leb (c .before .before .before .before .before .before .args .c .a) 1 (omega (arith, c .if1 .taken)))
 
 returns-2 : tie.Need-returns-2
 unfolding callOf
-returns-2 c = rw (c .before .before .match .keys16, lt-leb (c .before .before .before .before .before .before .args .c .a) 65535 (c .if2 .taken))
+returns-2 c = rw (c .before .before .match .keys16, lt-leb (c .before .before .before .before .before .before .args .c .a) 65535 (omega (arith, c .if2 .taken)))
 
 cast-t28 : tie.Need-cast-t28
 cast-t28 c = search needs

@@ -3,8 +3,8 @@ use contract.Running.{givenOf, tables, tablesOf}
 use denote.Triple.Spec.{tripleOf}
 use denote.Triple.Table.{entered, cited}
 use Rattle.lent.proofs.Drawings.{blits}
-use Rattle.lent.proofs.Operation.{Parts, both-say}
-use Rattle.lent.proofs.Walks.{apart-meets}
+use Rattle.lent_surface.proofs.Operation.{Parts, both-say}
+use Rattle.lent_surface.proofs.Walks.{apart-meets}
 use Rattle.blit.proofs.blit_from_bytes_rop.Symbol as callee-def
 use Rattle.blit.proofs.blit_from_bytes_rop.Symbol.{name as #blit·blit-from-bytes-rop}
 use Rattle.blit.proofs.blit_from_bytes_rop.Met as callee-thm

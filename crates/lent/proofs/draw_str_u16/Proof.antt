@@ -3,8 +3,8 @@ use contract.Running.{givenOf, tables, tablesOf}
 use denote.Triple.Spec.{tripleOf}
 use denote.Triple.Table.{entered, cited}
 use Rattle.lent.proofs.Drawings.{draws-text}
-use Rattle.lent.proofs.Operation.{Parts, both-say}
-use Rattle.lent.proofs.Walks.{apart-meets}
+use Rattle.lent_surface.proofs.Operation.{Parts, both-say}
+use Rattle.lent_surface.proofs.Walks.{apart-meets}
 use Rattle.text.proofs.draw_str_u16.Symbol as callee-def
 use Rattle.text.proofs.draw_str_u16.Symbol.{name as #text·draw-str-u16}
 use Rattle.text.proofs.draw_str_u16.Met as callee-thm

@@ -3,8 +3,8 @@ use contract.Running.{givenOf, tables, tablesOf}
 use denote.Triple.Spec.{tripleOf}
 use denote.Triple.Table.{entered, cited}
 use Rattle.lent.proofs.Drawings.{draws-text}
-use Rattle.lent.proofs.Operation.{OnSurface, both-say}
-use Rattle.lent.proofs.Walks.{together-meets}
+use Rattle.lent_surface.proofs.Operation.{OnSurface, both-say}
+use Rattle.lent_surface.proofs.Walks.{together-meets}
 use Rattle.lent.proofs.draw_str_u16.Symbol as callee-def
 use Rattle.lent.proofs.draw_str_u16.Symbol.{name as #lent·draw-str-u16}
 use Rattle.lent.proofs.draw_str_u16.Met as callee-thm

@@ -3,8 +3,8 @@ use contract.Running.{givenOf, tables, tablesOf}
 use denote.Triple.Spec.{tripleOf}
 use denote.Triple.Table.{entered, cited}
 use Rattle.lent.proofs.Drawings.{fills}
-use Rattle.lent.proofs.Operation.{Parts, both-say}
-use Rattle.lent.proofs.Walks.{apart-meets}
+use Rattle.lent_surface.proofs.Operation.{Parts, both-say}
+use Rattle.lent_surface.proofs.Walks.{apart-meets}
 use Rattle.fill.proofs.fill_rect.Symbol as callee-def
 use Rattle.fill.proofs.fill_rect.Symbol.{name as #fill·fill-rect}
 use Rattle.fill.proofs.fill_rect.Met as callee-thm

@@ -3,8 +3,8 @@ use contract.Running.{givenOf, tables, tablesOf}
 use denote.Triple.Spec.{tripleOf}
 use denote.Triple.Table.{entered, cited}
 use Rattle.lent.proofs.Drawings.{fills}
-use Rattle.lent.proofs.Operation.{OnSurface, both-say}
-use Rattle.lent.proofs.Walks.{together-meets}
+use Rattle.lent_surface.proofs.Operation.{OnSurface, both-say}
+use Rattle.lent_surface.proofs.Walks.{together-meets}
 use Rattle.lent.proofs.fill_rect.Symbol as callee-def
 use Rattle.lent.proofs.fill_rect.Symbol.{name as #lent·fill-rect}
 use Rattle.lent.proofs.fill_rect.Met as callee-thm

@@ -3,8 +3,8 @@ use contract.Running.{givenOf, tables, tablesOf}
 use denote.Triple.Spec.{tripleOf}
 use denote.Triple.Table.{entered, cited}
 use Rattle.lent.proofs.Drawings.{strokes}
-use Rattle.lent.proofs.Operation.{Parts, both-say}
-use Rattle.lent.proofs.Walks.{apart-meets}
+use Rattle.lent_surface.proofs.Operation.{Parts, both-say}
+use Rattle.lent_surface.proofs.Walks.{apart-meets}
 use Rattle.outline.proofs.stroke_rect.Symbol as callee-def
 use Rattle.outline.proofs.stroke_rect.Symbol.{name as #outline·stroke-rect}
 use Rattle.outline.proofs.stroke_rect.Met as callee-thm

@@ -6,7 +6,7 @@ use lib.ListN.{length}
 use borrow.Author.Needs.{needs}
 use Rattle.laws.specs.Interval.{between}
 use Rattle.words.specs.Words.{painted}
-use Rattle.words.proofs.Runs.{paint-first, paint-next, next-kept}
+use Rattle.runs.proofs.Runs.{paint-first, paint-next, next-kept}
 use Rattle.rop3.specs.Rop3.{applied}
 use Rattle.raster.specs.Raster.{ropped}
 use Rattle.raster.proofs.combine_run.Statement.{statement}

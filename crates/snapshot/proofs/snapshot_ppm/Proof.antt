@@ -4,7 +4,8 @@ use native.Mathlib.Omega.{arith}
 use lib.ListN.{length}
 use borrow.Author.Needs.{needs}
 use Rattle.surface.proofs.Answers.{accepted-bytes, refused-bytes}
-use Rattle.snapshot.specs.Snapshot.{ppmOf, ppmLength}
+use Rattle.p6.specs.P6.{ppmLength}
+use Rattle.samples.specs.Samples.{ppmOf}
 use Rattle.snapshot.proofs.Refusal.{refused, other-length, exact, lent}
 use Rattle.snapshot.proofs.snapshot_ppm.Statement.{statement}
 use Rattle.snapshot.proofs.snapshot_ppm.Tie as tie

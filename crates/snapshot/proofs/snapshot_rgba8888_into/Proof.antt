@@ -5,7 +5,7 @@ use native.Mathlib.Omega.{arith}
 use lib.ListN.{length}
 use borrow.Author.Needs.{needs}
 use Rattle.surface.proofs.Answers.{accepted-bytes, refused-bytes}
-use Rattle.snapshot.specs.Snapshot.{rgbaOf, rgbaLength}
+use Rattle.samples.specs.Samples.{rgbaOf, rgbaLength}
 use Rattle.snapshot.proofs.Refusal.{refused, other-length, exact, lent}
 use Rattle.snapshot.proofs.snapshot_rgba8888_into.Statement.{statement}
 use Rattle.snapshot.proofs.snapshot_rgba8888_into.Tie as tie

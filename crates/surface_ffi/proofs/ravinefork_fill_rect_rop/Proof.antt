@@ -1,4 +1,4 @@
--- `surface_ffi::ravinefork_fill_rect_rop` meets its contract: it is that of `fill::fill_rect_rop`. Assumes nothing.
+-- `surface_ffi::ravinefork_fill_rect_rop` meets its contract: it is that of `fill_rop::fill_rect_rop`. Assumes nothing.
 use mathlib.Core.Path.{_∙_}
 use borrow.Author.Needs.{needs}
 use Rattle.laws.proofs.Machine.{stored32}

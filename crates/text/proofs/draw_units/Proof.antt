@@ -17,9 +17,10 @@ use Rattle.font.specs.Font.{glyphOf}
 use Rattle.surface.specs.Region.{wordsOf}
 use Rattle.surface.proofs.Rows.{column-lt, row-lt}
 use Rattle.text.specs.Ink.{glyphInk, textInk}
-use Rattle.text.specs.Parts.{bitmapInk, Reached}
-use Rattle.text.proofs.Glyph.{glyph-narrow, rows-missed}
-use Rattle.text.proofs.Reach.{plus-zero}
+use Rattle.glyph.specs.Parts.{bitmapInk}
+use Rattle.text.specs.Parts.{Reached}
+use Rattle.glyph.proofs.Glyph.{glyph-narrow, rows-missed}
+use Rattle.glyph.proofs.Reach.{plus-zero}
 use Rattle.text.proofs.Text.{text-more, text-off, text-first, text-last}
 use Rattle.text.proofs.draw_units.Statement.{statement}
 use Rattle.text.proofs.draw_units.Tie as tie

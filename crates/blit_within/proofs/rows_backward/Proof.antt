@@ -1,0 +1,59 @@
+-- `blit_within::rows_backward` meets its contract. The invariant: the rows from y on are drawn. Assumes nothing.
+use mathlib.Core.Path.{_≡_, refl, _∙_}
+use Prim.Native.Nat.{_+_, _-_, _≤_}
+use native.Mathlib.Omega.{arith}
+use lib.ListN.{length}
+use borrow.Author.Needs.{needs}
+use Rattle.blit.specs.Rows.{rowsWithin}
+use Rattle.blit_within.proofs.Within.{first-within, next-up, room-kept}
+use Rattle.blit_within.proofs.rows_backward.Statement.{statement}
+use Rattle.blit_within.proofs.rows_backward.Tie as tie
+
+abbrev Inv-loop : tie.InvT-loop
+Inv-loop mem₀ at width src-at src-w r table pat y₀ mem y = (mem ≡ rowsWithin r at width src-at src-w table pat y (r .y1) mem₀) × ((length mem ≡ length mem₀) × ((r .y0 ≤ y) × (y ≤ r .y1)))
+
+abbrev μ-loop : tie.MeasureT-loop
+μ-loop mem₀ at width src-at src-w r table pat y₀ mem y = y
+
+loop-holds : tie.Need-loop-holds Inv-loop μ-loop
+loop-holds c = let s = c .before in (first-within (s .args .r) (s .args .at) (s .args .width) (s .args .src-at) (s .args .src-w) (s .args .table) (s .args .pat) (s .args .mem .now) (s .pre .0) (s .args .r .y1), (refl, (omega arith, omega arith)))
+
+sub-y : tie.Need-sub-y Inv-loop μ-loop
+sub-y c = omega arith
+
+row-within-requires : tie.Need-row-within-requires Inv-loop μ-loop
+row-within-requires c κs = (room-kept (c .before .before .before .loop .inv .1 .0) (c .before .before .before .before .before .pre .0), (omega arith, omega arith))
+
+loop-less : tie.Need-loop-less Inv-loop μ-loop
+loop-less c = omega arith
+
+loop-again : tie.Need-loop-again Inv-loop μ-loop
+loop-again c =
+    let s = c .before .before .before .before .before .before .before .before in
+    let a = s .args in
+    let l = c .before .before .before .before .before .before .loop in
+    let one : l .y ≡ l .y - 1 + 1 = omega arith in
+    (next-up (a .r) (a .at) (a .width) (a .src-at) (a .src-w) (a .table) (a .pat) (a .mem .now) (s .pre .0) (l .y - 1) (s .pre .1) (omega arith) (omega arith) (rw one at (l .inv .0)) (c .before .before .row-within .ensures), (c .before .before .row-within .kept .0 ∙ l .inv .1 .0, (omega arith, omega arith)))
+
+same-length : tie.Need-same-length Inv-loop μ-loop
+same-length c = search needs
+
+returns : tie.Need-returns Inv-loop μ-loop
+returns c =
+    let l = c .before .before .loop in
+    let e : l .y ≡ c .before .before .before .before .args .r .y0 = omega arith in
+    rw e at (l .inv .0)
+
+pub rows-backward-spec : {M : Type 1} → statement M
+rows-backward-spec =
+    tie.close
+    (tie.spec
+    Inv-loop
+    μ-loop
+    loop-holds
+    sub-y
+    row-within-requires
+    loop-less
+    loop-again
+    same-length
+    returns)

@@ -1,0 +1,69 @@
+-- The part of a blit that is drawn, one axis at a time, and where in the source it is taken from.
+use mathlib.Core.Path.{_≡_}
+use mathlib.Core.Bool.{Bool, _&&_, cond}
+use Prim.Native.Nat.{ℕ, _+_, _-_, _≤_, _<_}
+use lib.Dec.{ltb}
+use lib.IntN.{ℤ, pos, _+ℤ_, _-ℤ_}
+use lib.Signed.{leZ, ltZ}
+use Rattle.laws.specs.Interval.{between}
+use Rattle.laws.specs.Integer.{positive}
+use Rattle.clip.specs.declared.Span.{Span}
+use Rattle.clip_blit.specs.declared.BlitSpan.{BlitSpan}
+use Rattle.clip_blit.specs.declared.BlitRect.{BlitRect}
+use Rattle.clip.specs.Clip.{covers, clippedAxis}
+
+-- the source coordinate taken for the destination coordinate i, over the integers
+abbrev pub sourceAt : ℤ → ℤ → ℕ → ℤ
+sourceAt d s i = pos i -ℤ d +ℤ s
+
+-- 0 ≤ z < side
+abbrev pub inside : ℤ → ℕ → Bool
+inside z side = leZ (pos 0) z && ltZ z (pos side)
+
+-- i is in d .. d + w, and its source coordinate is inside the source
+abbrev pub drawn : (d s w : ℤ) → (src-side i : ℕ) → Bool
+drawn d s w src-side i = covers d w i && inside (sourceAt d s i) src-side
+
+-- the pixel at column c and row r is in the box, and its source pixel is inside the source
+abbrev pub drawnAt : (dx dy sx sy w h : ℤ) → (src-w src-h c r : ℕ) → Bool
+drawnAt dx dy sx sy w h src-w src-h c r = drawn dx sx w src-w c && drawn dy sy h src-h r
+
+-- the destination, shifted by what was cut off the source's start
+abbrev pub shifted : ℤ → ℤ → Span → ℤ
+shifted d s cut = d +ℤ (pos (cut .from) -ℤ s)
+
+-- the cut source where it is drawn, clipped to the destination
+abbrev pub placed : ℤ → ℤ → Span → ℕ → Span
+placed d s cut dst-side = clippedAxis (shifted d s cut) (pos (cut .to) -ℤ pos (cut .from)) dst-side
+
+-- an empty stretch
+abbrev pub nothing : BlitSpan
+nothing = record { from = 0; to = 0; src = 0 }
+
+-- clip to the source, shift the destination by what was cut, clip to the destination
+unfoldable pub blitAxis : (d s w : ℤ) → (dst-side src-side : ℕ) → BlitSpan
+blitAxis d s w dst-side src-side =
+    let cut = clippedAxis s w src-side in
+    let on = placed d s cut dst-side in
+    cond (ltb (on .from) (on .to))
+    (record { from = on .from; to = on .to; src = positive (pos (cut .from) +ℤ (pos (on .from) -ℤ shifted d s cut)) })
+    nothing
+
+-- the clipped box, and the source coordinates of its first column and row
+abbrev pub blitRect : (dx dy sx sy w h : ℤ) → (dst-w dst-h src-w src-h : ℕ) → BlitRect
+blitRect dx dy sx sy w h dst-w dst-h src-w src-h = record {
+  x0 = blitAxis dx sx w dst-w src-w .from;
+  y0 = blitAxis dy sy h dst-h src-h .from;
+  x1 = blitAxis dx sx w dst-w src-w .to;
+  y1 = blitAxis dy sy h dst-h src-h .to;
+  «src_x0» = blitAxis dx sx w dst-w src-w .src;
+  «src_y0» = blitAxis dy sy h dst-h src-h .src;
+}
+
+-- The stretch b lies on the destination and its source on the source; it holds the drawn coordinates, each with its own source.
+pub record Clipped (d s w : ℤ) (dst-side src-side : ℕ) (b : BlitSpan) : Type 0 where
+  pub ordered : b .from ≤ b .to
+  pub within : b .to ≤ dst-side
+  pub source : b .src + (b .to - b .from) ≤ src-side
+  pub exact : (i : ℕ) → i < dst-side → between (b .from) (b .to) i ≡ drawn d s w src-side i
+  pub taken : (i : ℕ) → b .from ≤ i → i < b .to → pos (b .src + (i - b .from)) ≡ sourceAt d s i

@@ -1,0 +1,85 @@
+-- `copies::copy_bytes` meets its contract. The invariant: the bytes up to k are copied. Assumes nothing.
+use mathlib.Core.Path.{_≡_, refl, _∙_, ap}
+use Prim.Native.Nat.{ℕ, _+_, _*_, _-_, _≤_, _<_}
+use native.Mathlib.Omega.{arith}
+use lib.ListN.{length, getD, length-set}
+use borrow.Author.Needs.{needs}
+use Rattle.laws.specs.Interval.{between}
+use Rattle.words.specs.Words.{written}
+use Rattle.runs.proofs.Runs.{write-first, write-next, copy-painted}
+use Rattle.copies.proofs.copy_bytes.Statement.{statement}
+use Rattle.copies.proofs.copy_bytes.Tie as tie
+
+abbrev Inv-loop : tie.InvT-loop
+Inv-loop dst₀ src d s n k₀ k-end dst k = (dst ≡ written (between (2 * d) (2 * d + k)) (λ j. getD src (2 * s + (j - 2 * d)) 0) dst₀) × ((length dst ≡ length dst₀) × ((k ≤ 2 * n) × (0 < k → (j : ℕ) → getD src j 0 < 256)))
+
+abbrev μ-loop : tie.MeasureT-loop
+μ-loop dst₀ src d s n k₀ k-end dst k = 2 * n - k
+
+mul-k-end : tie.Need-mul-k-end Inv-loop μ-loop
+mul-k-end c = omega arith
+
+loop-holds : tie.Need-loop-holds Inv-loop μ-loop
+loop-holds c = let a = c .args in (write-first (λ j. getD (a .src .now) (2 * a .s + (j - 2 * a .d)) 0) (a .dst .now) (2 * a .d), (refl, (omega arith, λ h. absurd (omega arith))))
+
+mul-dst : tie.Need-mul-dst Inv-loop μ-loop
+mul-dst c = omega arith
+
+add-dst : tie.Need-add-dst Inv-loop μ-loop
+add-dst c = omega arith
+
+shared-slice-read-dst : tie.Need-shared-slice-read-dst Inv-loop μ-loop
+shared-slice-read-dst c = omega arith
+
+mul-dst-2 : tie.Need-mul-dst-2 Inv-loop μ-loop
+mul-dst-2 c = omega arith
+
+add-dst-2 : tie.Need-add-dst-2 Inv-loop μ-loop
+add-dst-2 c = omega arith
+
+slice-write-dst : tie.Need-slice-write-dst Inv-loop μ-loop
+slice-write-dst c = omega arith
+
+add-k : tie.Need-add-k Inv-loop μ-loop
+add-k c = omega arith
+
+loop-less : tie.Need-loop-less Inv-loop μ-loop
+loop-less c = omega arith
+
+loop-again : tie.Need-loop-again Inv-loop μ-loop
+loop-again c =
+    let l = c .before .before .loop in
+    let a = c .before .before .before .args in (
+      write-next (λ j. getD (a .src .now) (2 * a .s + (j - 2 * a .d)) 0) (a .dst .now) (2 * a .d) (l .k) (getD (a .src .now) (2 * a .s + l .k) 0) (omega arith) (l .inv .0) (ap (λ (j : ℕ). getD (a .src .now) j 0) (omega arith)),
+      (simp length-set (l .inv .1 .0), (omega arith, λ h j. omega (arith, c .shared-slice-known .given j))),
+    )
+
+same-length : tie.Need-same-length Inv-loop μ-loop
+same-length c = search needs
+
+returns : tie.Need-returns Inv-loop μ-loop
+returns c =
+    let l = c .before .loop in
+    let a = c .before .before .args in
+    let e : l .k ≡ 2 * a .n = omega arith in
+    (rw e at (l .inv .0)) ∙ copy-painted (a .d) (a .s) (a .n) (a .src .now) (a .dst .now) (λ h. l .inv .1 .1 .1 (omega arith))
+
+pub copy-bytes-spec : {M : Type 1} → statement M
+copy-bytes-spec =
+    tie.close
+    (tie.spec
+    Inv-loop
+    μ-loop
+    mul-k-end
+    loop-holds
+    mul-dst
+    add-dst
+    shared-slice-read-dst
+    mul-dst-2
+    add-dst-2
+    slice-write-dst
+    add-k
+    loop-less
+    loop-again
+    same-length
+    returns)

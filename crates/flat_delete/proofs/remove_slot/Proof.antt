@@ -1,0 +1,118 @@
+-- `flat_delete::remove_slot` meets its contract. The invariant: the numbers from slot i on, up to k, came from one slot behind
+-- them. Assumes nothing.
+use mathlib.Core.Path.{_≡_, refl}
+use Prim.Native.Nat.{_+_, _*_, _-_, _≤_}
+use native.Mathlib.Omega.{arith}
+use lib.ListN.{length, drop, length-set}
+use lib.Seq.{paste}
+use borrow.Author.Needs.{needs}
+use Rattle.flat.specs.Block.{at}
+use Rattle.flat.proofs.Seen.{record-length, record-count}
+use Rattle.memory.proofs.Gap.{moved-none, moved-more}
+use Rattle.flat_delete.proofs.Without.{last-room, moved-down}
+use Rattle.flat_delete.proofs.remove_slot.Statement.{statement}
+use Rattle.flat_delete.proofs.remove_slot.Tie as tie
+
+abbrev Inv-loop : tie.InvT-loop
+Inv-loop l₀ i last end k₀ l k =
+    (l ≡ paste l₀ (21 + 14 * i) (drop (21 + 14 * i + 14) l₀) (k - (21 + 14 * i)))
+    × ((length l ≡ length l₀) × ((end + 14 ≤ length l₀) × ((length l₀ ≡ 3605) × ((21 + 14 * i ≤ k) × (k ≤ end)))))
+
+abbrev μ-loop : tie.MeasureT-loop
+μ-loop l₀ i last end k₀ l k = end - k
+
+slice-read-last : tie.Need-slice-read-last Inv-loop μ-loop
+slice-read-last c = omega (arith, record-length _ (c .before .pre .0))
+
+sub-last : tie.Need-sub-last Inv-loop μ-loop
+sub-last c = omega arith
+
+cast-end : tie.Need-cast-end Inv-loop μ-loop
+cast-end c = omega (arith, record-count _ (c .before .pre .0))
+
+mul-end : tie.Need-mul-end Inv-loop μ-loop
+mul-end c = omega (arith, record-count _ (c .before .pre .0))
+
+add-end : tie.Need-add-end Inv-loop μ-loop
+add-end c = omega (arith, record-count _ (c .before .pre .0))
+
+mul-k : tie.Need-mul-k Inv-loop μ-loop
+mul-k c = omega (arith, record-count _ (c .before .pre .0))
+
+add-k : tie.Need-add-k Inv-loop μ-loop
+add-k c = omega (arith, record-count _ (c .before .pre .0))
+
+loop-holds : tie.Need-loop-holds Inv-loop μ-loop
+loop-holds c =
+    let e = c .before in (
+      moved-none (e .args .l .now) (21 + 14 * e .args .i) 14,
+      (refl, (last-room (e .args .l .now) (e .pre .0) (e .args .i) (e .pre .1), (record-length _ (e .pre .0), (omega arith, omega arith)))),
+    )
+
+add-l : tie.Need-add-l Inv-loop μ-loop
+add-l c = omega arith
+
+mul-l : tie.Need-mul-l Inv-loop μ-loop
+mul-l c = omega arith
+
+slice-read-l : tie.Need-slice-read-l Inv-loop μ-loop
+slice-read-l c = omega arith
+
+mul-l-2 : tie.Need-mul-l-2 Inv-loop μ-loop
+mul-l-2 c = omega arith
+
+slice-write-l : tie.Need-slice-write-l Inv-loop μ-loop
+slice-write-l c = omega arith
+
+add-k-2 : tie.Need-add-k-2 Inv-loop μ-loop
+add-k-2 c = omega arith
+
+loop-less : tie.Need-loop-less Inv-loop μ-loop
+loop-less c = omega arith
+
+loop-again : tie.Need-loop-again Inv-loop μ-loop
+loop-again c =
+    let l = c .before .before .loop in
+    let a = c .before .before .before .before .args in (
+      moved-more (a .l .now) (21 + 14 * a .i) 14 0 (l .l) (l .k) (omega arith) (omega arith) (l .inv .0),
+      (simp length-set (l .inv .1 .0), (l .inv .1 .1 .0, (l .inv .1 .1 .1 .0, (omega arith, omega arith)))),
+    )
+
+slice-write-l-2 : tie.Need-slice-write-l-2 Inv-loop μ-loop
+slice-write-l-2 c = omega arith
+
+same-length : tie.Need-same-length Inv-loop μ-loop
+same-length c = search needs
+
+returns : tie.Need-returns Inv-loop μ-loop
+returns c =
+    let l = c .before .loop in
+    let e = c .before .before .before in
+    let f : l .k ≡ 21 + 14 * (at (e .args .l .now) 8 - 1) = omega arith in
+    moved-down (e .args .l .now) (e .pre .0) (e .args .i) (e .pre .1) (l .l) (rw f at (l .inv .0))
+
+pub remove-slot-spec : {M : Type 1} → statement M
+remove-slot-spec =
+    tie.close
+    (tie.spec
+    Inv-loop
+    μ-loop
+    slice-read-last
+    sub-last
+    cast-end
+    mul-end
+    add-end
+    mul-k
+    add-k
+    loop-holds
+    add-l
+    mul-l
+    slice-read-l
+    mul-l-2
+    slice-write-l
+    add-k-2
+    loop-less
+    loop-again
+    slice-write-l-2
+    same-length
+    returns)

@@ -1,0 +1,79 @@
+-- `flat_handles::alloc_handle` meets its contract. Assumes nothing.
+use mathlib.Core.Path.{_≡_, refl, sym, _∙_}
+use Prim.Native.Nat.{_≤_, _-_}
+use native.Mathlib.Omega.{arith}
+use borrow.Author.Needs.{needs}
+use Rattle.flat.specs.Block.{at}
+use Rattle.flat.specs.View.{view}
+use Rattle.flat.proofs.Seen.{record-length}
+use Rattle.handles.specs.Handles.{ahead, firstFree, tries, newHandle}
+use Rattle.handles.proofs.Search.{hit, miss, end, ahead-next}
+use Rattle.flat_handles.proofs.alloc_handle.Statement.{statement}
+use Rattle.flat_handles.proofs.alloc_handle.Tie as tie
+
+abbrev Inv-loop : tie.InvT-loop
+Inv-loop l h₀ i₀ h i =
+    (i ≤ tries)
+    × ((h ≡ ahead (at l 6) i)
+    × (firstFree (view l .objects) (view l .count) (at l 6) i (tries - i) ≡ newHandle (view l)))
+
+abbrev μ-loop : tie.MeasureT-loop
+μ-loop l h₀ i₀ h i = tries - i
+
+shared-slice-read-h : tie.Need-shared-slice-read-h Inv-loop μ-loop
+shared-slice-read-h c = omega (arith, record-length _ (c .before .before .pre))
+
+loop-holds : tie.Need-loop-holds Inv-loop μ-loop
+unfolding view
+loop-holds c = (omega arith, (omega (arith, c .shared-slice-known2 .given 6), refl))
+
+is-free-requires : tie.Need-is-free-requires Inv-loop μ-loop
+is-free-requires c κs = search needs
+
+returns : tie.Need-returns Inv-loop μ-loop
+returns c =
+    let v = c .before .before .before .loop .inv in
+    v .1 .0
+    ∙ sym (hit _ _ _ _ (omega arith) (rw (← v .1 .0) (sym (c .before .is-free .ensures) ∙ c .if1 .taken)))
+    ∙ v .1 .1
+
+wrapping-add-u32-requires : tie.Need-wrapping-add-u32-requires Inv-loop μ-loop
+wrapping-add-u32-requires c κs = search needs
+
+add-i : tie.Need-add-i Inv-loop μ-loop
+add-i c = omega arith
+
+loop-less : tie.Need-loop-less Inv-loop μ-loop
+loop-less c = omega arith
+
+loop-again : tie.Need-loop-again Inv-loop μ-loop
+loop-again c =
+    let v = c .before .before .before .before .loop .inv in (
+      omega arith,
+      (
+        c .wrapping-add-u32 .ensures ∙ rw (v .1 .0) (ahead-next _ _),
+        sym (miss _ _ _ _ (omega arith) (rw (← v .1 .0) (sym (c .before .before .is-free .ensures) ∙ c .before .if1 .left)))
+            ∙ v .1 .1,
+      ),
+    )
+
+returns-2 : tie.Need-returns-2 Inv-loop μ-loop
+returns-2 c =
+    let v = c .before .loop .inv in
+    v .1 .0 ∙ sym (end _ _ _ _ (omega arith)) ∙ v .1 .1
+
+pub alloc-handle-spec : {M : Type 1} → statement M
+alloc-handle-spec =
+    tie.close
+    (tie.spec
+    Inv-loop
+    μ-loop
+    shared-slice-read-h
+    loop-holds
+    is-free-requires
+    returns
+    wrapping-add-u32-requires
+    add-i
+    loop-less
+    loop-again
+    returns-2)

@@ -1,0 +1,1 @@
+// A record has one form in numbers: proofs only.

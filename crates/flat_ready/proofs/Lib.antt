@@ -1,0 +1,2 @@
+mod Handles
+mod Record

@@ -1,0 +1,131 @@
+// The record check on the numbers of a bench record, read where they lie, and the refusals that every call after open shares.
+ghost use mathlib.Core.Path.{_≡_};
+ghost use mathlib.Core.Bool.{true};
+ghost use Prim.Native.Nat.{_<_};
+ghost use Rattle.gdi.specs.Lookup.{handleAt};
+ghost use Rattle.flat.specs.Block.{at};
+ghost use Rattle.flat.specs.View.{view, isRecord};
+ghost use Rattle.sound.specs.Sound.{absent, distinct, ascending, isSound};
+ghost use Rattle.ready.specs.Ready.{commonRefusal};
+use flat::COUNT;
+use flat::HEIGHT;
+use flat::PANEL_LEN;
+use flat::SLOT;
+use flat::SLOTS;
+use flat::STORE_LEN;
+use flat::WIDTH;
+use ready::OTHER_LENGTH;
+use ready::UNSOUND_RECORD;
+use sound::MAX_MEMORY;
+
+// Whether the record is sound.
+pub fn is_sound(l: &[u32]) -> bool
+    requires { ⌜ isRecord (now l) ≡ true ⌝ }
+    ensures { λ r. ⌜ r ≡ isSound (view (now (l .entry))) ⌝ }
+{
+    let panel_len = l[PANEL_LEN] as usize;
+    if panel_len > MAX_MEMORY {
+        return false;
+    }
+    let store_len = l[STORE_LEN] as usize;
+    if store_len > MAX_MEMORY {
+        return false;
+    }
+    if !surface::is_side(l[WIDTH]) {
+        return false;
+    }
+    if !surface::is_side(l[HEIGHT]) {
+        return false;
+    }
+    let w = l[WIDTH] as usize;
+    let h = l[HEIGHT] as usize;
+    if 2 * (w * h) > panel_len {
+        return false;
+    }
+    if !flat_sound::slots_fit(l) {
+        return false;
+    }
+    if !handles_differ(l) {
+        return false;
+    }
+    let count = l[COUNT] as usize;
+    flat_sound::start_of(l, count) <= store_len
+}
+
+// Whether each handle is above the one before it, as it is until handles have gone round.
+fn is_ascending(l: &[u32]) -> bool
+    requires { ⌜ isRecord (now l) ≡ true ⌝ }
+    ensures { λ r. ⌜ r ≡ ascending (view (now (l .entry)) .objects) (view (now (l .entry)) .count) ⌝ }
+{
+    let n = l[COUNT] as usize;
+    let mut i: usize = 1;
+    while i < n {
+        let p = SLOTS + SLOT * i;
+        if l[p] <= l[p - SLOT] {
+            return false;
+        }
+        i += 1;
+    }
+    true
+}
+
+// Whether none of the first k handles is the k-th.
+fn is_absent(l: &[u32], k: usize) -> bool
+    requires { ⌜ isRecord (now l) ≡ true ⌝ }
+    requires { ⌜ k < at (now l) 8 ⌝ }
+    ensures { λ r. ⌜ r ≡ absent (view (now (l .entry)) .objects) k (handleAt (view (now (l .entry)) .objects) k) ⌝ }
+{
+    let h = l[SLOTS + SLOT * k];
+    let mut j: usize = 0;
+    while j < k {
+        if l[SLOTS + SLOT * j] == h {
+            return false;
+        }
+        j += 1;
+    }
+    true
+}
+
+// Whether the handles of all pairs differ.
+fn all_pairs_differ(l: &[u32]) -> bool
+    requires { ⌜ isRecord (now l) ≡ true ⌝ }
+    ensures { λ r. ⌜ r ≡ distinct (view (now (l .entry)) .objects) (view (now (l .entry)) .count) ⌝ }
+{
+    let n = l[COUNT] as usize;
+    let mut k: usize = 0;
+    while k < n {
+        if !is_absent(l, k) {
+            return false;
+        }
+        k += 1;
+    }
+    true
+}
+
+// Whether the handles differ: all pairs are looked at only where the handles do not ascend.
+fn handles_differ(l: &[u32]) -> bool
+    requires { ⌜ isRecord (now l) ≡ true ⌝ }
+    ensures { λ r. ⌜ r ≡ distinct (view (now (l .entry)) .objects) (view (now (l .entry)) .count) ⌝ }
+{
+    if is_ascending(l) {
+        return true;
+    }
+    all_pairs_differ(l)
+}
+
+// The number with which every call is refused, 0 if calls are looked at.
+pub fn common_refusal(l: &[u32], panel_len: usize, store_len: usize) -> u32
+    requires { ⌜ isRecord (now l) ≡ true ⌝ }
+    ensures { λ r. ⌜ r ≡ commonRefusal (view (now (l .entry))) «panel_len» «store_len» ⌝ }
+{
+    if is_sound(l) {
+        if panel_len != l[PANEL_LEN] as usize {
+            return OTHER_LENGTH;
+        }
+        if store_len != l[STORE_LEN] as usize {
+            return OTHER_LENGTH;
+        }
+        return 0;
+    }
+    UNSOUND_RECORD
+}

@@ -1,2 +1,0 @@
-mod Encoded
-pub mod Slots

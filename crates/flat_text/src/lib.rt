@@ -1,0 +1,43 @@
+// Text by a DC's handle on the record that lent numbers are, made where the numbers lie.
+ghost use mathlib.Core.Path.{_≡_};
+ghost use mathlib.Core.Bool.{true};
+ghost use lib.ListN.{length};
+ghost use Rattle.flat.specs.View.{view, isRecord};
+ghost use Rattle.ready.specs.Ready.{Ready};
+ghost use Rattle.paint.specs.Memories.{memories};
+ghost use Rattle.plan.specs.Drawing.{text};
+ghost use Rattle.flat_plan.specs.Served.{Served};
+use canvas::Drawing;
+use draw::NO_DC;
+use draw::NO_SURFACE;
+use place::Target;
+use plan::Answer;
+use plan::Point;
+
+// The units before unit 0 or the end, in the text colour. The answer is their advance.
+pub fn text_out(
+    l: &mut [u32],
+    panel: &mut [u8],
+    store: &mut [u8],
+    units: &[u16],
+    dc: u32,
+    at: Point,
+) -> Answer
+    requires { ⌜ isRecord (now l) ≡ true ⌝ }
+    requires { ⌜ Ready (view (now l)) (length (now panel)) (length (now store)) ⌝ }
+    ensures { λ r. ⌜ Served (text (view (now (l .entry))) (now (units .entry)) dc at) (now (l .entry)) (memories (now (panel .entry)) (now (store .entry))) r (now (l .exit)) (memories (now (panel .exit)) (now (store .exit))) ⌝ }
+{
+    match flat_place::target_of(l, dc) {
+        Target::NoDc => Answer::Refused(NO_DC),
+        Target::NoSurface => Answer::Refused(NO_SURFACE),
+        Target::On(id, d) => {
+            let count = text::unit_count(units);
+            if text::MAX_UNITS < count {
+                return Answer::Refused(surface::TOO_MANY_UNITS);
+            }
+            let ink = color::colorref_to_rgb565(d.text_color);
+            flat_draw::draw(l, panel, store, id, Drawing::Text { at, count }, units, ink);
+            Answer::Advance(text::GLYPH_W * (count as u32))
+        }
+    }
+}

@@ -1,0 +1,3 @@
+pub mod Glyph
+pub mod Reach
+pub mod Row

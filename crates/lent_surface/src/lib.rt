@@ -1,0 +1,7 @@
+// A surface as one value.
+// A surface: its pixel bytes, lent, with its sides.
+pub struct Surface<'a> {
+    pub pixels: &'a mut [u8],
+    pub width: u32,
+    pub height: u32,
+}

@@ -1,0 +1,3 @@
+pub mod P6
+pub mod Put
+pub mod Decimal

@@ -1,0 +1,2 @@
+pub mod P6
+pub mod Put
