@@ -33,6 +33,8 @@ usage:
   compare sample-calls STDIN STDOUT write the fixed call script and the original's lines to files
   compare calls PROGRAM COUNT SEED  compare COUNT random call scripts with a program
   compare handles PROGRAM           compare the call script that goes past the stock handles
+  compare pictures PROGRAM COUNT SEED
+                                    compare the final panels of COUNT random call scripts with a program
   compare records STDIN STDOUT COUNT SEED
                                     write records, COUNT of them random, and their lines to files
   compare record-answers            print the lines for the records on standard input
@@ -57,7 +59,7 @@ fn main() -> ExitCode {
 fn command(arguments: &[&str]) -> Result<bool, String> {
     match arguments {
         ["call-script" | "call-answers" | "call-picture" | "script", ..]
-        | ["sample-calls" | "calls" | "handles", ..] => calls_command(arguments),
+        | ["sample-calls" | "calls" | "handles" | "pictures", ..] => calls_command(arguments),
         ["records" | "record-answers" | "records-run", ..] => records_command(arguments),
         ["ppm", program, count, seed] => ppm::run(program, number(count)?, number(seed)?),
         _ => primitives_command(arguments),
@@ -83,6 +85,9 @@ fn calls_command(arguments: &[&str]) -> Result<bool, String> {
             return calls::run(program, number(count)?, number(seed)?);
         }
         ["handles", program] => return calls::run_handles(program),
+        ["pictures", program, count, seed] => {
+            return calls::run_pictures(program, number(count)?, number(seed)?);
+        }
         _ => return Err(USAGE.into()),
     }
     Ok(true)

@@ -56,9 +56,9 @@ fn due(input: &[u8]) -> Vec<u8> {
 fn compare(program: &str, input: &[u8], netpbm: bool) -> Result<bool, String> {
     let output = program::run(program, input).map_err(|error| format!("{program}: {error}"))?;
     let due = due(input);
-    if output.stdout != due || !output.status.success() {
-        let at = output.stdout.iter().zip(&due).take_while(|(a, b)| a == b).count();
-        println!("differs at byte {at} of {}, {} written", due.len(), output.stdout.len());
+    let difference = program::byte_difference(&due, &output.stdout);
+    if difference.is_some() || !output.status.success() {
+        println!("{}", difference.unwrap_or("every byte equal".into()));
         println!("ended     {}\ninput     {}", output.status, hexadecimal(input));
         return Ok(false);
     }

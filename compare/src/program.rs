@@ -9,7 +9,13 @@ use std::{env, fs};
 
 /// Runs the program on the script.
 pub fn run(program: &str, script: &[u8]) -> io::Result<Output> {
-    let mut child = Command::new(program).stdin(Stdio::piped()).stdout(Stdio::piped()).spawn()?;
+    run_with(program, &[], script)
+}
+
+/// Runs the program on the script, with arguments.
+fn run_with(program: &str, arguments: &[&str], script: &[u8]) -> io::Result<Output> {
+    let mut command = Command::new(program);
+    let mut child = command.args(arguments).stdin(Stdio::piped()).stdout(Stdio::piped()).spawn()?;
     let mut stdin = child.stdin.take().expect("standard input is piped");
     // Written beside the reading, so that neither pipe can fill up and stop both.
     thread::scope(|scope| {
@@ -44,9 +50,39 @@ pub fn compare(
     shown: impl Fn(usize) -> String,
     name: &str,
 ) -> Result<bool, String> {
-    let output = run(program, script).map_err(|error| format!("{program}: {error}"))?;
-    if let Some(at) = first_difference(lines, &output.stdout) {
-        println!("{}", difference(lines, &output.stdout, at, shown));
+    let difference = |printed: &[u8]| {
+        let at = first_difference(lines, printed)?;
+        Some(difference(lines, printed, at, shown))
+    };
+    is_equal(program, &[], script, difference, name)
+}
+
+/// Compares what the program, run with arguments, writes for a script with the
+/// bytes that are due, and shows the first that differs. A script that it fails
+/// on is kept.
+pub fn compare_bytes(
+    program: &str,
+    arguments: &[&str],
+    script: &[u8],
+    due: &[u8],
+    name: &str,
+) -> Result<bool, String> {
+    is_equal(program, arguments, script, |written| byte_difference(due, written), name)
+}
+
+/// Whether what the program writes for a script is what is due; else the
+/// difference is shown, and the script is kept.
+fn is_equal(
+    program: &str,
+    arguments: &[&str],
+    script: &[u8],
+    difference: impl FnOnce(&[u8]) -> Option<String>,
+    name: &str,
+) -> Result<bool, String> {
+    let output = run_with(program, arguments, script);
+    let output = output.map_err(|error| format!("{program}: {error}"))?;
+    if let Some(difference) = difference(&output.stdout) {
+        println!("{difference}");
         println!("ended     {}", output.status);
         println!("script    {}", kept(script, name)?);
         return Ok(false);
@@ -70,6 +106,13 @@ fn difference(
     };
     let (number, shown) = (at + 1, shown(at));
     format!("lines differ at line {number}: {shown}\nexpected  {due}\nprogram   {line}")
+}
+
+/// Where the bytes written are first not those that are due, if they are not.
+pub fn byte_difference(due: &[u8], written: &[u8]) -> Option<String> {
+    let at = written.iter().zip(due).take_while(|(a, b)| a == b).count();
+    let (due, written) = (due.len(), written.len());
+    (at < due.max(written)).then(|| format!("differs at byte {at} of {due}, {written} written"))
 }
 
 /// Writes the script to the folder for temporary files, as it is and in
@@ -143,5 +186,17 @@ mod tests {
         );
         assert!(at("open 0\n").ends_with("\nprogram   nothing"));
         assert!(at("open 0\n03 0 dead1000\ncrc\n").starts_with("all 2 lines are equal, "));
+    }
+
+    #[test]
+    fn bytes_differ_at_a_byte_or_at_an_end() {
+        assert_eq!(byte_difference(b"P6\n", b"P6\n"), None);
+        for (written, difference) in [
+            ("P5\n", "differs at byte 1 of 3, 3 written"),
+            ("P6", "differs at byte 2 of 3, 2 written"),
+            ("P6\n\n", "differs at byte 3 of 3, 4 written"),
+        ] {
+            assert_eq!(byte_difference(b"P6\n", written.as_bytes()).as_deref(), Some(difference));
+        }
     }
 }

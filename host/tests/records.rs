@@ -1,11 +1,18 @@
 //! The committed records, as in docs/record-cases.md: every call refuses each as
-//! the specification's list says, and a refused call changes nothing.
+//! the specification's list says, and a refused call changes nothing. The screen
+//! DC paints the panel whatever its surface says.
 
 use std::fs;
 
-use ravinefork::{call, Handle, HostCall, Record, DC, RECORD, SCREEN, SLOT, SLOTS};
+use ravinefork::{
+    call, rop3, Area, Bench, DcSurface, Handle, HostCall, Point, Record, DC, RECORD, SCREEN, SLOT,
+    SLOTS,
+};
 
 const FOLDER: &str = concat!(env!("CARGO_MANIFEST_DIR"), "/../crates/records");
+
+/// The number of a DC's surface that is a bitmap.
+const MEMORY: u32 = 1;
 
 /// Takes numbers off the front of the stream.
 struct Stream<'a>(&'a [u8]);
@@ -52,14 +59,15 @@ impl Stream<'_> {
         let lengths = [self.wide(), self.wide()];
         let sides = [self.word(), self.word()];
         let frames = self.number(8);
-        let (next, stock, count) = (self.word(), self.number(1) as u32, self.wide());
+        let (next, stock) = (self.word(), self.number(1) as u32);
+        let (surface, count) = (self.number(1) as u32, self.wide());
         let slots: Vec<_> = (0..self.number(2)).map(|_| self.slot()).collect();
         let lent = [self.word(), self.word()].map(|len| len as usize);
         let numbers = (|| {
             let frames = [frames as u32, (frames >> 32) as u32];
             let mut numbers = vec![lengths[0]?, lengths[1]?, sides[0], sides[1]];
             numbers.extend([frames[0], frames[1], next, stock, count?]);
-            numbers.extend(screen());
+            numbers.extend(screen(surface));
             numbers.extend(slots.concat());
             // Vacant slots: handle 0, a brush of colour 0.
             let vacant = (0..SLOT).map(|i| if i == 1 { 2 } else { 0 }).cycle();
@@ -70,11 +78,19 @@ impl Stream<'_> {
     }
 }
 
-/// The screen DC of a fresh bench.
-fn screen() -> [u32; DC] {
+/// The screen DC of a fresh bench, with this surface.
+fn screen(surface: u32) -> [u32; DC] {
     let mut record = Record::new();
     record.open(1, 1, &mut [0; 2], &mut [0; 2]).expect("a bench");
-    record.as_numbers()[SCREEN..SLOTS].try_into().expect("twelve numbers")
+    let mut screen: [u32; DC] =
+        record.as_numbers()[SCREEN..SLOTS].try_into().expect("twelve numbers");
+    screen[0] = surface;
+    screen
+}
+
+/// Whether the sample's call turns the first pixel of the screen DC's surface black.
+fn blackens(call: u32) -> bool {
+    matches!(call, call::PATTERN_FILL | call::RECTANGLE | call::BLIT)
 }
 
 #[test]
@@ -82,7 +98,7 @@ fn the_sample() {
     let bytes = fs::read(format!("{FOLDER}/stdin")).expect("the records");
     let lines = fs::read_to_string(format!("{FOLDER}/stdout")).expect("their lines");
     let mut stream = Stream(bytes.strip_prefix(b"REC1").expect("records"));
-    let (mut tried, mut wide) = (0, 0);
+    let (mut tried, mut wide, mut memory_screens) = (0, 0, 0);
     for (i, line) in lines.lines().enumerate() {
         let (numbers, [panel_len, store_len]) = stream.record();
         let number = line.strip_prefix(&format!("record {i} ")).expect("the record's line");
@@ -101,13 +117,43 @@ fn the_sample() {
             let reply = record.perform(&call, &[0x41], &mut panel, &mut store);
             let refusal = if matches!(reply.refusal, 8 | 9) { reply.refusal } else { 0 };
             assert_eq!(refusal.to_string(), number, "{line}: {call:?}");
+            assert_eq!(record.as_numbers()[SCREEN], numbers[SCREEN], "{line}: {call:?}");
+            if number == "0" && blackens(call.call) {
+                assert!(panel[..2] == [0; 2], "{line}: {call:?} does not paint the panel");
+                assert!(store == memories[1], "{line}: {call:?} paints the store");
+            }
             if reply.refusal != 0 {
                 assert!(record.as_numbers() == numbers, "{line}: {call:?} changed the record");
                 assert!([panel, store] == memories, "{line}: {call:?} changed a memory");
             }
         }
+        memory_screens += u32::from(number == "0" && numbers[SCREEN] == MEMORY);
         tried += 1;
     }
     assert!(stream.0.is_empty());
+    assert!(memory_screens > 0, "no sound record has a screen DC that says memory");
     println!("{tried} records, {wide} with numbers of over 32 bits");
+}
+
+#[test]
+fn a_screen_dc_that_says_memory_paints_the_panel() {
+    let dc = Handle::GDI_SCREEN_DC;
+    let mut bench = Bench::open(2, 2, 8, 10).expect("a bench");
+    let bitmap = bench.create_compatible_bitmap(2, 2).expect("a bitmap");
+    bench.select_into(dc, bitmap).expect("a selection");
+    let (record, panel, store) = bench.into_parts();
+    let mut numbers = record.into_numbers();
+    numbers[SCREEN] = MEMORY;
+    let mut bench = Bench::from_parts(Record::from_numbers(numbers), panel, store);
+    let column = Area { x: 0, y: 0, w: 1, h: 2 };
+    assert_eq!(bench.pattern_fill(dc, column, rop3::WHITENESS), Ok(()));
+    assert_eq!(bench.panel(), [0xFF, 0xFF, 0, 0, 0xFF, 0xFF, 0, 0]);
+    // As a source as well.
+    let corner = Area { x: 1, y: 1, w: 1, h: 1 };
+    assert_eq!(bench.blit(dc, corner, dc, Point { x: 0, y: 0 }, rop3::SRCCOPY), Ok(()));
+    assert_eq!(bench.panel(), [0xFF, 0xFF, 0, 0, 0xFF, 0xFF, 0xFF, 0xFF]);
+    assert_eq!(bench.store(), [0; 10]);
+    assert_eq!(bench.frame_counter(), 2);
+    let screen = bench.record().screen();
+    assert_eq!((screen.surface, screen.selected_bitmap), (DcSurface::Memory, Some(bitmap)));
 }

@@ -72,6 +72,11 @@ impl Bench {
         self.panel_memory.len()
     }
 
+    /// The length of the store.
+    pub fn store_len(&self) -> usize {
+        self.store.len()
+    }
+
     pub fn gdi(&self) -> &GdiState {
         &self.original.gdi
     }
@@ -92,7 +97,7 @@ impl Bench {
 
     /// The store's bytes that no bitmap has.
     pub fn left(&self) -> usize {
-        self.store.len() - self.used()
+        self.store_len() - self.used()
     }
 
     /// Performs the call. Where a sum of the original overflows there is no
@@ -205,31 +210,38 @@ impl Bench {
 
     /// The store, whole.
     fn store_bytes(&self) -> Vec<u8> {
-        let mut bytes: Vec<u8> = self.pixels().flatten().copied().collect();
-        bytes.extend_from_slice(&self.store[bytes.len()..]);
-        bytes
+        let pixels: Vec<&[u8]> = self.pixels().collect();
+        [pixels.concat().as_slice(), &self.store[self.used()..]].concat()
     }
 
-    /// The state lines: panel, screen DC, created objects, CRCs.
-    pub fn state(self) -> Vec<String> {
+    /// The state lines as they are now: panel, screen DC, created objects, CRCs.
+    pub fn state(&self) -> Vec<String> {
         let gdi = self.gdi();
         let screen = gdi.dc(GDI_SCREEN_DC).expect("the screen DC is stock");
         let stock = gdi.bitmap(STOCK_DEFAULT_BITMAP).expect("the bitmap is stock");
-        let mut lines = vec![format!("dc {GDI_SCREEN_DC:08x} {}", line::dc_fields(screen))];
+        let Framebuffer { width, height, frame_counter, .. } = self.panel;
+        let (next, dirty, count) = (self.next(), u8::from(stock.host_dirty), self.created().len());
+        let mut lines = vec![
+            format!(
+                "panel {width} {height} frames {frame_counter} next {next:08x} stock {dirty} \
+                 count {count}"
+            ),
+            format!("dc {GDI_SCREEN_DC:08x} {}", line::dc_fields(screen)),
+        ];
         for handle in self.created() {
             let object = gdi.get(*handle).expect("a created object is live");
             lines.push(format!("object {handle:08x} {}", line::object(object)));
         }
         let (panel, store) = (crc32(&self.panel_bytes()), crc32(&self.store_bytes()));
         lines.push(format!("crc {panel:08x} {store:08x}"));
-        let Framebuffer { width, height, frame_counter, .. } = self.panel;
-        let (dirty, count) = (u8::from(stock.host_dirty), self.created().len());
-        let next = self.original.next_handle();
-        let first = format!(
-            "panel {width} {height} frames {frame_counter} next {next:08x} stock {dirty} \
-             count {count}"
-        );
-        lines.insert(0, first);
+        lines
+    }
+
+    /// The state lines at the end of a script, where the original itself is asked
+    /// for its next handle.
+    pub fn end(self) -> Vec<String> {
+        let lines = self.state();
+        self.original.confirm_next();
         lines
     }
 }

@@ -6,6 +6,7 @@ use pocket_kernel::gdi::GDI_SCREEN_DC;
 use super::call::{Call, MAX_UNITS};
 use super::paint::drawn;
 use super::script::{Header, MOST_PANEL, MOST_STORE};
+use super::step::LOOK;
 
 /// A header whose memories are just long enough.
 const SMALL: Header = Header { panel_len: 8, store_len: 2, width: 2, height: 2, fill: 0xA5 };
@@ -19,6 +20,7 @@ pub fn scripts() -> Vec<Vec<u8>> {
     scripts.extend((0..4).map(|at| [&small[..at], b"i", &small[at + 1..]].concat()));
     // Each byte where a call should begin, and nothing behind it.
     scripts.extend((0..=u8::MAX).map(|byte| [&small[..], &[0x01, byte]].concat()));
+    scripts.extend(looks());
     for call in with_arguments() {
         let bytes = call.bytes();
         let cut = &bytes[..bytes.len() - 1];
@@ -33,6 +35,26 @@ pub fn scripts() -> Vec<Vec<u8>> {
 
 fn panel_fill(word: u32) -> Call {
     Call::PanelFill { word }
+}
+
+/// Looks before all calls, in a row, between calls and behind them; right before
+/// a bad call and behind it; the byte as an argument; looks without a bench.
+fn looks() -> Vec<Vec<u8>> {
+    let fill = panel_fill(0x7F7F).bytes();
+    let steps = [
+        vec![LOOK],
+        [&[LOOK, LOOK, 0x01, LOOK, LOOK], fill.as_slice(), &[LOOK], &fill, &[LOOK, LOOK]].concat(),
+        vec![0x01, LOOK, 0x00, LOOK],
+        vec![LOOK, 0x13],
+        [&[LOOK], &fill[..4]].concat(),
+        vec![0x03, LOOK, LOOK, LOOK, LOOK],
+        vec![0x03, LOOK, LOOK, LOOK],
+    ];
+    let mut scripts = steps.map(|steps| [SMALL.bytes(), steps].concat()).to_vec();
+    let refused = Header { width: 0, ..SMALL };
+    let too_large = Header { store_len: u32::MAX, ..SMALL };
+    scripts.extend([refused, too_large].map(|header| [header.bytes(), vec![LOOK]].concat()));
+    scripts
 }
 
 /// As many units as are accepted, and one more; a stop behind so many and before.
@@ -126,11 +148,18 @@ mod tests {
             assert!(texts.iter().any(|text| text.starts_with(line)), "{line}");
         }
         let bad = texts.iter().filter(|text| text.contains("\nbad call\n"));
-        assert_eq!(bad.count(), 255 + 17 + 2 * (4 + 3) + 2);
+        assert_eq!(bad.count(), 254 + 4 + 17 + 2 * (4 + 3) + 2);
         let twelve = "open 0\n02 7 00000000\n02 6 00000000\n02 0 dead1000\n02 7 00000000\npanel ";
         assert!(texts[0].starts_with(twelve), "{}", texts[0]);
         let long = "open 0\n09 0 00000000\n0f 0 393210\n0f 10 0\n0f 0 393210\n0f 0 30\n0f 0 0\n\
                     0f 1 0\npanel 24 8 frames 3 ";
         assert!(texts[1].starts_with(long), "{}", texts[1]);
+    }
+
+    #[test]
+    fn looks_at_the_edges() {
+        let states = |script: &Vec<u8>| printed(script).matches("\npanel ").count();
+        let states: Vec<usize> = looks().iter().map(states).collect();
+        assert_eq!(states, [2, 8, 2, 2, 2, 1, 1, 1, 0]);
     }
 }

@@ -9,6 +9,7 @@ use pocket_kernel::gdi::{
 use super::bench::MAX_OBJECTS;
 use super::call::Call;
 use super::handle::STOCK;
+use super::step::Step;
 
 /// What is left of the store for the examples of `room`: two bitmaps with the
 /// longest side, and 14 bytes.
@@ -16,20 +17,15 @@ pub const ROOM: u32 = 2 * 8192 + 14;
 
 /// Every call that draws nothing, every kind of answer, and as many objects as
 /// there can be, which are all deleted.
-pub fn calls() -> Vec<Call> {
-    let mut list = List { calls: Vec::new(), next: GDI_HANDLE_BASE };
-    settings(&mut list);
-    selections(&mut list);
-    removals(&mut list);
-    crowd(&mut list);
-    list.calls
+pub fn steps() -> Vec<Step> {
+    List::of(GDI_HANDLE_BASE, &[settings, selections, removals, crowd])
 }
 
 /// Sides past the limit, and bitmaps that just fit the store or just do not, on
 /// a bench with `ROOM` bytes left whose next handle this is. At the end four
 /// bytes of the store are left, which a bitmap had.
-pub fn room(next: u32) -> Vec<Call> {
-    let mut list = List { calls: Vec::new(), next };
+pub fn room(next: u32) -> Vec<Step> {
+    let mut list = List::new(next);
     for side in [4097, 0x1_0000, 0x8000_0000, u32::MAX] {
         list.add([bitmap(side, 0), bitmap(0, side), bitmap(side, side)]);
     }
@@ -51,23 +47,41 @@ pub fn room(next: u32) -> Vec<Call> {
     let dc = list.create(Call::CreateMemoryDc {});
     let white = Call::PatternFill { dc, x: 0, y: 0, w: 1, h: 5, code: PATCOPY };
     list.add([select(dc, last), white, delete(before)]);
-    list.calls
+    list.steps
 }
 
-/// Calls, and the handle that the next creation gives.
+/// Steps, and the handle that the next creation gives.
 pub struct List {
-    pub calls: Vec<Call>,
+    pub steps: Vec<Step>,
     pub next: u32,
 }
 
 impl List {
+    pub fn new(next: u32) -> Self {
+        Self { steps: Vec::new(), next }
+    }
+
+    /// The steps of some parts, with a look at the end of each.
+    pub fn of(next: u32, parts: &[fn(&mut List)]) -> Vec<Step> {
+        let mut list = List::new(next);
+        for part in parts {
+            part(&mut list);
+            list.look();
+        }
+        list.steps
+    }
+
     pub fn add(&mut self, calls: impl IntoIterator<Item = Call>) {
-        self.calls.extend(calls);
+        self.steps.extend(calls.into_iter().map(Step::Call));
+    }
+
+    pub fn look(&mut self) {
+        self.steps.push(Step::Look);
     }
 
     /// Adds a creation that is accepted; its handle.
     pub fn create(&mut self, call: Call) -> u32 {
-        self.calls.push(call);
+        self.add([call]);
         self.next += 1;
         self.next - 1
     }
@@ -173,7 +187,7 @@ fn removals(list: &mut List) {
     }
 }
 
-/// As many objects as there can be, and one more of each kind.
+/// As many objects as there can be, which are looked at, and one more of each kind.
 fn crowd(list: &mut List) {
     let first = list.create(bitmap(2, 2));
     for number in 1..MAX_OBJECTS as u32 {
@@ -185,6 +199,7 @@ fn crowd(list: &mut List) {
     list.add([delete(first + 100), bitmap(4096, 4096)]);
     let last = list.create(Call::CreateMemoryDc {});
     list.add(more());
+    list.look();
     list.add([select(last, first), select(last, first + 99), select(last, first + 100)]);
     list.add((first..=last).map(delete));
 }

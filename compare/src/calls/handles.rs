@@ -5,6 +5,7 @@ use pocket_kernel::gdi::{GDI_HANDLE_BASE, GDI_SCREEN_DC};
 use super::call::Call;
 use super::handle::STOCK;
 use super::script::Header;
+use super::step::Step;
 
 /// The handles that the script is given: more than the 18,177 from 0xDEAD_1000
 /// to 0xDEAD_5700, after which the first stock handle is the next.
@@ -12,18 +13,24 @@ const GIVEN: u32 = 18_400;
 /// From this many on objects of every kind stay, so that there are some on both
 /// sides of each stock handle.
 const STAYING: u32 = 18_170;
+/// So many of them are followed by a look: up to the last stock handle and past it.
+const LOOKED_AT: u32 = 40;
 
-/// Brushes made and deleted up to the stock handles, then objects that stay. At
-/// the end each stock object is selected into a DC, to show that it is as ever.
+/// Brushes made and deleted up to the stock handles, then objects that stay, with
+/// looks while the next handle goes past the stock ones. At the end each stock
+/// object is selected into a DC, to show that it is as ever.
 pub fn handles() -> Vec<u8> {
     let dcs = STOCK.len() as u32;
-    let mut calls = Vec::new();
+    let mut steps = Vec::new();
     for given in 0..GIVEN {
-        calls.push(creation(given));
+        steps.push(creation(given).into());
         if (dcs..STAYING).contains(&given) {
-            calls.push(Call::Delete { handle: GDI_HANDLE_BASE + given });
+            steps.push(Call::Delete { handle: GDI_HANDLE_BASE + given }.into());
+        } else if (STAYING..STAYING + LOOKED_AT).contains(&given) {
+            steps.push(Step::Look);
         }
     }
+    let mut calls = Vec::new();
     for (dc, stock) in (GDI_HANDLE_BASE..).zip(STOCK) {
         calls.push(Call::Select { dc, object: stock });
         calls.push(Call::Delete { handle: stock });
@@ -36,9 +43,10 @@ pub fn handles() -> Vec<u8> {
         }
     }
     calls.extend((0..5).map(creation));
+    steps.extend(calls.into_iter().map(Step::Call));
     let header = Header { panel_len: 9, store_len: 500, width: 2, height: 2, fill: 0xA5 };
     let mut script = header.bytes();
-    calls.iter().for_each(|call| call.write(&mut script));
+    steps.iter().for_each(|step| step.write(&mut script));
     script
 }
 
@@ -72,13 +80,18 @@ mod tests {
         assert_eq!(given[18_176..18_178], ["dead5700", "dead570a"]);
         assert_eq!(given[18_182..18_186], ["dead570f", "dead5711", "dead5712", "dead5713"]);
         assert!(!lines.contains("bad call"));
+        // A look tells the number held, also if it is a stock handle.
+        for next in ["dead5701", "dead5710", "dead5720", "dead5722"] {
+            assert!(lines.contains(&format!("panel 2 2 frames 0 next {next} ")), "{next}");
+        }
     }
 
     #[test]
     fn stock_objects_are_as_ever() {
         let lines = printed(&handles());
+        let end = lines.rfind("\npanel ").expect("state lines are at the end");
         let colors = |line: &str| line.split(' ').skip(8).take(2).collect::<Vec<_>>().join(" ");
-        let dcs = lines.lines().filter(|line| line.starts_with("object dead10"));
+        let dcs = lines[end..].lines().filter(|line| line.starts_with("object dead10"));
         let colors: Vec<String> = dcs.map(colors).collect();
         let brushes = ["00ffffff", "00c0c0c0", "00808080", "00000000", "ff000000"];
         let pens = ["00ffffff", "00000000", "ff000000"];

@@ -18,12 +18,13 @@ mod run;
 mod sample;
 mod script;
 mod spoilt;
+mod step;
 mod tally;
 
 pub use bench::{bytes_of, MAX_MEMORY, MAX_OBJECTS, MAX_SIDE};
 pub use drawing::drawing;
 pub use handle::STOCK;
-pub use run::{run, run_handles};
+pub use run::{run, run_handles, run_pictures};
 pub use sample::sample;
 pub use script::picture;
 

@@ -11,7 +11,8 @@ use super::call::Call;
 /// on with the one that the specification's rule gives.
 pub struct Original {
     pub gdi: GdiState,
-    /// The handle that it gives next, which it does not show.
+    /// The handle that it gives next, which it does not show. Whenever it gives
+    /// one, it is asserted to be this.
     pub next: u32,
 }
 
@@ -55,9 +56,9 @@ impl Original {
         handle
     }
 
-    /// Its next handle, which it tells only by giving it.
-    pub fn next_handle(mut self) -> u32 {
-        self.create_next(&Call::CreateMemoryDc {})
+    /// Asks it for its next handle, which it tells only by giving it.
+    pub fn confirm_next(mut self) {
+        self.create_next(&Call::CreateMemoryDc {});
     }
 }
 

@@ -9,6 +9,7 @@ use pocket_kernel::gdi::{
 
 use super::call::Call;
 use super::examples::{bitmap, brush, delete, pen, remove, select, List};
+use super::step::Step;
 
 /// The bytes of the bitmaps that stay.
 pub const BYTES: u32 = 2 * (4 * 256 + 20 * 10 + 8 * 6 + 3 + 4 * 3 + 8 * 8 + 2 * 3);
@@ -22,17 +23,8 @@ const WHITE: u32 = 0x00FF_FFFF;
 
 /// Every drawing call, every refusal of each, and what can be seen of them in the
 /// end, on a bench with a panel memory of 963 bytes whose next handle this is.
-pub fn calls(next: u32) -> Vec<Call> {
-    let mut list = List { calls: Vec::new(), next };
-    panel(&mut list);
-    refusals(&mut list);
-    tables(&mut list);
-    boxes(&mut list);
-    overlaps(&mut list);
-    ink(&mut list);
-    moves(&mut list);
-    stock(&mut list);
-    list.calls
+pub fn steps(next: u32) -> Vec<Step> {
+    List::of(next, &[panel, refusals, tables, boxes, overlaps, ink, moves, stock])
 }
 
 fn fill(dc: u32, [x, y, w, h]: [i32; 4], code: u32) -> Call {

@@ -6,6 +6,7 @@ use super::handle::{a_dc, any_object, dc_for, selectable, source, with_surface};
 use super::paint::Place;
 use super::script::{Header, MOST_PANEL, MOST_STORE};
 use super::spoilt::spoil;
+use super::step::Step;
 use super::tally::Tally;
 use crate::overflow::Overflow;
 use crate::random::{code, colorref, unit, word};
@@ -14,9 +15,16 @@ use crate::span::{moved, near, outline, span, Span};
 
 /// More objects than a bench can hold.
 const CROWD: usize = 300;
+/// On a small bench a look follows one call in so many.
+const CALLS_PER_LOOK: usize = 10;
+/// The same for calls that move bitmaps or turn the panel black.
+const MOVES_PER_LOOK: usize = 2;
+/// So many bytes of memory make looks half as frequent, as do so many objects.
+const MANY_BYTES: usize = 250_000;
+const MANY_OBJECTS: usize = 64;
 
-/// The script that the seed makes: mostly 60 to 400 calls on a bench that opens.
-/// Of the tally only the calls that are dropped.
+/// The script that the seed makes: mostly 60 to 400 calls on a bench that opens,
+/// with looks between them. Of the tally only the calls that are dropped.
 pub fn script(seed: u64, tally: &mut Tally) -> Vec<u8> {
     let mut rng = Rng::new(seed);
     let header = header(&mut rng);
@@ -27,23 +35,26 @@ pub fn script(seed: u64, tally: &mut Tally) -> Vec<u8> {
         _ => rng.between(60, 400),
     };
     let (_, mut bench) = header.open();
-    let (calls, dropped) = calls(&mut rng, &mut bench, goal, count as usize, |_, _| true);
+    let (steps, dropped) =
+        steps(&mut rng, &mut bench, goal, count as usize, |_, _| true, looked_at);
     tally.drop_some(dropped);
-    spoil(&mut rng, header, &calls)
+    spoil(&mut rng, header, &steps)
 }
 
 /// Calls on the bench, which performs them, about a number of live objects that
-/// changes at times. Those that are not wanted are left out, and dropped those
-/// where a sum of the original overflows; their number.
-pub fn calls(
+/// changes at times; a look follows those that are to be looked at. Calls that
+/// are not wanted are left out, and dropped those where a sum of the original
+/// overflows; their number.
+pub fn steps(
     rng: &mut Rng,
     bench: &mut Bench,
     mut goal: usize,
     count: usize,
     wanted: impl Fn(&Bench, &Call) -> bool,
-) -> (Vec<Call>, u64) {
-    let (mut calls, mut dropped) = (Vec::new(), 0);
-    while calls.len() < count {
+    looked_at: impl Fn(&mut Rng, &Bench, &Call) -> bool,
+) -> (Vec<Step>, u64) {
+    let (mut steps, mut calls, mut dropped) = (Vec::new(), 0, 0);
+    while calls < count {
         if rng.one_in(120) {
             goal = self::goal(rng);
         }
@@ -51,12 +62,28 @@ pub fn calls(
         if !wanted(bench, &call) {
             continue;
         }
-        match bench.perform(&call) {
-            Ok(_) => calls.push(call),
-            Err(Overflow) => dropped += 1,
+        if let Err(Overflow) = bench.perform(&call) {
+            dropped += 1;
+            continue;
         }
+        let look = looked_at(rng, bench, &call).then_some(Step::Look);
+        steps.push(call.into());
+        steps.extend(look);
+        calls += 1;
     }
-    (calls, dropped)
+    (steps, dropped)
+}
+
+/// Whether a look follows the call: the more it has to print and to take the CRC
+/// of, the less often.
+fn looked_at(rng: &mut Rng, bench: &Bench, call: &Call) -> bool {
+    let calls = match call {
+        Call::Delete { .. } | Call::Remove { .. } | Call::Resize { .. } => MOVES_PER_LOOK,
+        _ => CALLS_PER_LOOK,
+    };
+    let bytes = bench.panel_len() + bench.store_len();
+    let times = 1 + bytes / MANY_BYTES + bench.created().len() / MANY_OBJECTS;
+    rng.one_in((calls * times) as u64)
 }
 
 fn goal(rng: &mut Rng) -> usize {
@@ -310,7 +337,7 @@ fn blit(rng: &mut Rng, bench: &Bench) -> Call {
 #[cfg(test)]
 mod tests {
     use super::*;
-    use crate::calls::script::answered;
+    use crate::calls::script::{answered, LONGEST};
 
     #[test]
     fn a_seed_makes_one_script() {
@@ -324,11 +351,31 @@ mod tests {
         let mut tally = Tally::new();
         for seed in 0..400 {
             let script = script(seed, &mut tally);
+            assert!(script.len() <= LONGEST);
             assert!(answered(&script, &mut tally).is_ok());
         }
         assert!(tally.least() >= 5, "{tally}");
+        assert!((6..14).contains(&(tally.calls() / tally.looks())), "{tally}");
         assert!(tally.share_changed() > 60, "{tally}");
         assert_eq!(tally.most(), MAX_OBJECTS, "{tally}");
+    }
+
+    #[test]
+    fn looks_go_by_size() {
+        let looks = |panel_len, store_len, objects: usize| {
+            let header = Header { panel_len, store_len, width: 1, height: 1, fill: 0 };
+            let (mut rng, (_, mut bench)) = (Rng::new(1), header.open());
+            let create = Call::CreateMemoryDc {};
+            (0..objects).for_each(|_| assert!(bench.perform(&create).is_ok()));
+            let mut count = |call| (0..9000).filter(|_| looked_at(&mut rng, &bench, &call)).count();
+            [count(Call::PanelFill { word: 0 }), count(Call::Delete { handle: 0 })]
+        };
+        let about = |looks: [usize; 2], due: [usize; 2]| {
+            assert!(looks.iter().zip(due).all(|(n, due)| n.abs_diff(due) < due / 3), "{looks:?}");
+        };
+        about(looks(2, 70_000, 20), [900, 4500]);
+        about(looks(2, 70_000, MAX_OBJECTS), [180, 900]);
+        about(looks(MOST_PANEL, MOST_STORE, 0), [43, 214]);
     }
 
     #[test]

@@ -1,14 +1,19 @@
 //! The comparison: call scripts, the original against a program.
 
+use super::drawing::drawing;
 use super::edges;
 use super::handles::handles;
 use super::random;
-use super::script::answered;
+use super::sample::sample;
+use super::script::{answered, picture, Answered, Performed};
+use super::step::Step;
 use super::tally::Tally;
 use crate::program::{self, hexadecimal, Progress};
 
 /// The bytes of a call that are shown.
 const SHOWN: usize = 512;
+/// The drawing of the repository.
+const SERVICE: &str = include_str!("../../../drawings/service.txt");
 
 /// Compares the scripts at the edges and `count` random ones, each from the next
 /// seed. True if all lines are equal; else the first difference has been printed.
@@ -45,15 +50,65 @@ pub fn run_handles(program: &str) -> Result<bool, String> {
     Ok(equal)
 }
 
+/// Compares the pictures of the fixed sample, of the repository's drawing and of
+/// `count` random scripts, each from the next seed. True if every byte is equal;
+/// else the first difference has been printed.
+pub fn run_pictures(program: &str, count: u64, first: u64) -> Result<bool, String> {
+    let service = drawing(SERVICE).map_err(|error| format!("drawings/service.txt: {error}"))?;
+    let fixed = [("sample".into(), sample().0), ("service".into(), service)];
+    let mut progress = Progress::new(fixed.len() as u64 + count, "scripts");
+    let random = (0..count).map(|done| {
+        let seed = first.wrapping_add(done);
+        (format!("calls-{seed}"), random::script(seed, &mut Tally::new()))
+    });
+    let (mut pictures, mut without) = (0, 0);
+    for (name, script) in fixed.into_iter().chain(random) {
+        let due = picture(&script)?;
+        if !program::compare_bytes(program, &["ppm"], &script, &due, &name)? {
+            return Ok(false);
+        }
+        if due.starts_with(b"P6\n") {
+            pictures += 1;
+        } else {
+            without += 1;
+        }
+        progress.show(pictures + without);
+    }
+    println!("sample, drawing and {count} random scripts from seed {first} on");
+    println!("{pictures} pictures compared, {without} scripts without one: every byte equal");
+    Ok(true)
+}
+
 fn compare(program: &str, script: &[u8], name: &str, tally: &mut Tally) -> Result<bool, String> {
     let answered = answered(script, tally)?;
-    // The first line is open's.
-    let call = |at: usize| at.checked_sub(1).and_then(|at| answered.calls.get(at));
-    let shown = |at| match call(at) {
-        Some(call) => format!("{call}\nbytes     {}", begin(&call.bytes())),
-        None => "no call's".into(),
-    };
-    program::compare(program, script, &answered.lines, shown, name)
+    program::compare(program, script, &answered.lines, |at| shown(&answered, at), name)
+}
+
+/// What a line is about, for people. Where a state differs, each call since the
+/// last state that was equal may be to blame.
+fn shown(answered: &Answered, at: usize) -> String {
+    let steps = &answered.steps;
+    let index = steps.iter().position(|done| done.lines.contains(&at));
+    match index.map(|index| (&steps[index].step, &steps[..index])) {
+        Some((Step::Call(call), _)) => format!("{call}\nbytes     {}", begin(&call.bytes())),
+        Some((Step::Look, before)) => {
+            let looks = before.iter().filter(|done| done.step == Step::Look).count();
+            format!("look {}, {}", looks + 1, since_look(before))
+        }
+        None if at == 0 => "open".into(),
+        None => format!("the end, {}", since_look(steps)),
+    }
+}
+
+/// The calls behind the last look.
+fn since_look(steps: &[Performed]) -> String {
+    let calls = steps.iter().rev().map_while(|done| match &done.step {
+        Step::Call(call) => Some(format!("\n          {call}")),
+        Step::Look => None,
+    });
+    let mut calls: Vec<String> = calls.collect();
+    calls.reverse();
+    format!("calls since the last look: {}{}", calls.len(), calls.concat())
 }
 
 /// The bytes in hexadecimal, of a long text only the first.
@@ -61,5 +116,41 @@ fn begin(bytes: &[u8]) -> String {
     match bytes.get(..SHOWN) {
         Some(first) => format!("{}..", hexadecimal(first)),
         None => hexadecimal(bytes),
+    }
+}
+
+#[cfg(test)]
+mod tests {
+    use super::*;
+    use crate::calls::script::Header;
+    use crate::calls::step::LOOK;
+
+    #[test]
+    fn the_drawing_has_a_picture() {
+        let script = drawing(SERVICE).expect("every line is good");
+        assert!(picture(&script).unwrap().starts_with(b"P6\n240 320\n255\n"));
+    }
+
+    #[test]
+    fn a_line_is_told_by_its_step() {
+        let header = Header { panel_len: 8, store_len: 2, width: 2, height: 2, fill: 0 };
+        let steps = [0x01, LOOK, LOOK, 0x01, 0x01, LOOK, 0x01];
+        let script = [header.bytes(), steps.to_vec()].concat();
+        let answered = answered(&script, &mut Tally::new()).unwrap();
+        let lines: Vec<String> = (0..answered.lines.len()).map(|at| shown(&answered, at)).collect();
+        let call = "create memory DC";
+        let (one, two) = (format!("\n          {call}"), format!("\n          {call}").repeat(2));
+        let expected = [
+            (1, "open".to_string()),
+            (1, format!("{call}\nbytes     01")),
+            (4, format!("look 1, calls since the last look: 1{one}")),
+            (4, "look 2, calls since the last look: 0".into()),
+            (2, format!("{call}\nbytes     01")),
+            (6, format!("look 3, calls since the last look: 2{two}")),
+            (1, format!("{call}\nbytes     01")),
+            (7, format!("the end, calls since the last look: 1{one}")),
+        ];
+        let expected = expected.into_iter().flat_map(|(count, line)| vec![line; count]);
+        assert_eq!(lines, expected.collect::<Vec<_>>());
     }
 }

@@ -9,6 +9,7 @@ use super::examples::{self, bitmap, delete, select, List, ROOM};
 use super::pictures;
 use super::random;
 use super::script::{answered, Header};
+use super::step::Step;
 use super::tally::Tally;
 use crate::rng::Rng;
 
@@ -39,33 +40,37 @@ pub fn sample() -> (Vec<u8>, String, Tally) {
 
 /// The same with so many random calls.
 fn script_with(random: usize) -> (Vec<u8>, String, Tally) {
-    let mut made = Made { calls: Vec::new(), bench: HEADER.open().1 };
-    made.perform(examples::calls());
-    let (calls, _) = random::calls(&mut Rng::new(1), &mut made.bench, 30, random, wanted);
-    made.calls.extend(calls);
+    let mut made = Made { steps: Vec::new(), bench: HEADER.open().1 };
+    made.perform(examples::steps());
+    let (mut rng, unseen) = (Rng::new(1), |_: &mut Rng, _: &Bench, _: &Call| false);
+    let (steps, _) = random::steps(&mut rng, &mut made.bench, 30, random, wanted, unseen);
+    made.steps.extend(steps);
+    made.steps.push(Step::Look);
     made.perform(shown(&made.bench));
-    made.perform(pictures::calls(made.bench.next()));
+    made.perform(pictures::steps(made.bench.next()));
     assert_eq!(made.bench.left(), ROOM as usize, "what is left for the last examples");
     made.perform(examples::room(made.bench.next()));
-    made.calls.push(Call::SetBkMode { dc: 0, transparent: 2 });
+    made.steps.push(Call::SetBkMode { dc: 0, transparent: 2 }.into());
     let mut script = HEADER.bytes();
-    made.calls.iter().for_each(|call| call.write(&mut script));
+    made.steps.iter().for_each(|step| step.write(&mut script));
     let mut tally = Tally::new();
     let answered = answered(&script, &mut tally).expect("no sum of these calls overflows");
     (script, answered.text(), tally)
 }
 
-/// Calls, and the bench after them.
+/// Steps, and the bench after them.
 struct Made {
-    calls: Vec<Call>,
+    steps: Vec<Step>,
     bench: Bench,
 }
 
 impl Made {
-    fn perform(&mut self, calls: Vec<Call>) {
-        for call in calls {
-            assert!(self.bench.perform(&call).is_ok(), "a sum overflows: {call}");
-            self.calls.push(call);
+    fn perform(&mut self, steps: Vec<Step>) {
+        for step in steps {
+            if let Step::Call(call) = &step {
+                assert!(self.bench.perform(call).is_ok(), "a sum overflows: {call}");
+            }
+            self.steps.push(step);
         }
     }
 }
@@ -84,11 +89,12 @@ fn wanted(bench: &Bench, call: &Call) -> bool {
 
 /// Gathers what is on the panel and on every bitmap in one bitmap, and deletes
 /// all other objects.
-fn shown(bench: &Bench) -> Vec<Call> {
+fn shown(bench: &Bench) -> Vec<Step> {
     let is_bitmap = |handle: &u32| bench.gdi().bitmap(*handle).is_some();
     let (bitmaps, others): (Vec<u32>, Vec<u32>) =
         bench.created().iter().partition(|h| is_bitmap(h));
-    let mut list = List { calls: others.into_iter().map(delete).collect(), next: bench.next() };
+    let mut list = List::new(bench.next());
+    list.add(others.into_iter().map(delete));
     let [dc, source] = [(); 2].map(|()| list.create(Call::CreateMemoryDc {}));
     let all = list.create(bitmap(SHOWN, SHOWN));
     list.add([select(dc, all)]);
@@ -105,7 +111,8 @@ fn shown(bench: &Bench) -> Vec<Call> {
     }
     list.add(bitmaps.into_iter().map(delete));
     list.add([delete(dc), delete(source)]);
-    list.calls
+    list.look();
+    list.steps
 }
 
 #[cfg(test)]

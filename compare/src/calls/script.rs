@@ -1,7 +1,9 @@
 //! Call scripts: their header, and what is printed for them.
 
+use std::ops::Range;
+
 use super::bench::Bench;
-use super::call::Call;
+use super::step::Step;
 use super::tally::Tally;
 use crate::argument::Argument;
 use crate::overflow::Overflow;
@@ -10,7 +12,7 @@ const MAGIC: &[u8; 4] = b"GDI1";
 /// The bytes of a header.
 pub const HEADER: usize = 21;
 /// The length of the longest script.
-const LONGEST: usize = 1_048_576;
+pub const LONGEST: usize = 1_048_576;
 /// The longest panel memory and store that the program serves.
 pub const MOST_PANEL: u32 = 1_048_576;
 pub const MOST_STORE: u32 = 4_194_304;
@@ -58,13 +60,26 @@ impl Header {
     }
 }
 
-/// What is printed for a script, and the calls that it made.
+/// What is printed for a script, and the steps that it was printed for.
 pub struct Answered {
     pub lines: Vec<String>,
-    pub calls: Vec<Call>,
+    pub steps: Vec<Performed>,
+}
+
+/// A step, and which lines are its own: one for a call, some for a look.
+pub struct Performed {
+    pub step: Step,
+    pub lines: Range<usize>,
 }
 
 impl Answered {
+    /// Adds a step with its lines.
+    fn add(&mut self, step: Step, lines: Vec<String>) {
+        let first = self.lines.len();
+        self.lines.extend(lines);
+        self.steps.push(Performed { step, lines: first..self.lines.len() });
+    }
+
     /// The lines as they are printed.
     pub fn text(&self) -> String {
         self.lines.iter().flat_map(|line| [line, "\n"]).collect()
@@ -84,7 +99,7 @@ impl Session {
     fn begun(line: String, bench: Option<Bench>, tally: &mut Tally) -> Self {
         tally.begin(&line);
         let opened = line == "open 0";
-        Self { answered: Answered { lines: vec![line], calls: Vec::new() }, bench, opened }
+        Self { answered: Answered { lines: vec![line], steps: Vec::new() }, bench, opened }
     }
 
     /// Reads a script and has the original perform it; an error where a sum of
@@ -106,22 +121,29 @@ impl Session {
         Ok(session)
     }
 
-    /// Performs calls up to the end or a bad one.
+    /// Performs steps up to the end or a bad call.
     fn perform(&mut self, mut script: &[u8], tally: &mut Tally) -> Result<(), String> {
         let bench = self.bench.as_mut().expect("a bench is open");
-        let Answered { lines, calls } = &mut self.answered;
         while !script.is_empty() {
-            let Some(call) = Call::read(&mut script) else {
-                lines.push("bad call".into());
+            let Some(step) = Step::read(&mut script) else {
+                self.answered.lines.push("bad call".into());
                 tally.bad_call();
                 return Ok(());
             };
-            let outcome = bench
-                .perform(&call)
-                .map_err(|Overflow| format!("the original's sums overflow, no answer: {call}"))?;
-            tally.count(&call, &outcome, bench);
-            lines.push(format!("{:02x} {outcome}", call.byte()));
-            calls.push(call);
+            let lines = match &step {
+                Step::Call(call) => {
+                    let outcome = bench.perform(call).map_err(|Overflow| {
+                        format!("the original's sums overflow, no answer: {call}")
+                    })?;
+                    tally.count(call, &outcome, bench);
+                    vec![format!("{:02x} {outcome}", call.byte())]
+                }
+                Step::Look => {
+                    tally.look();
+                    bench.state()
+                }
+            };
+            self.answered.add(step, lines);
         }
         Ok(())
     }
@@ -132,12 +154,13 @@ pub fn answered(script: &[u8], tally: &mut Tally) -> Result<Answered, String> {
     let Session { mut answered, bench, .. } = Session::run(script, tally)?;
     if let Some(bench) = bench {
         tally.end(&bench);
-        answered.lines.extend(bench.state());
+        answered.lines.extend(bench.end());
     }
     Ok(answered)
 }
 
-/// The final panel as a P6 picture; the first line alone if no bench is open.
+/// The final panel as a P6 picture, whatever was looked at before; the first line
+/// alone if no bench is open.
 pub fn picture(script: &[u8]) -> Result<Vec<u8>, String> {
     let Session { answered, bench, opened } = Session::run(script, &mut Tally::new())?;
     Ok(match bench {
@@ -149,7 +172,9 @@ pub fn picture(script: &[u8]) -> Result<Vec<u8>, String> {
 #[cfg(test)]
 mod tests {
     use super::*;
+    use crate::calls::call::Call;
     use crate::calls::printed;
+    use crate::calls::step::LOOK;
     use pocket_kernel::gdi::GDI_SCREEN_DC;
 
     const SMALL: Header = Header { panel_len: 8, store_len: 2, width: 2, height: 2, fill: 0xFF };
@@ -218,8 +243,34 @@ mod tests {
             assert_eq!(answered.lines[..3], ["open 0", "01 0 dead1000", "bad call"]);
             assert!(answered.lines[3].ends_with("next dead1001 stock 0 count 1"));
             assert_eq!(answered.lines.len(), 7);
-            assert_eq!(answered.calls.len(), 1);
+            assert_eq!(answered.steps.len(), 1);
         }
+    }
+
+    #[test]
+    fn a_look_prints_the_state_so_far() {
+        let fill = Call::PanelFill { word: 0xFFFF }.bytes();
+        let script = [&SMALL.bytes(), [LOOK, 0x01, LOOK, LOOK].as_slice(), &fill].concat();
+        let answered = answered(&script, &mut Tally::new()).unwrap();
+        let fresh = printed(&SMALL.bytes());
+        assert_eq!(answered.lines[..4], fresh.lines().collect::<Vec<_>>());
+        assert_eq!(answered.lines[4], "01 0 dead1000");
+        assert_eq!(answered.lines[5], "panel 2 2 frames 0 next dead1001 stock 0 count 1");
+        assert!(answered.lines[7].starts_with("object dead1000 dc memory none "));
+        assert_eq!(answered.lines[8], answered.lines[3]);
+        assert_eq!(answered.lines[5..9], answered.lines[9..13]);
+        assert_eq!(answered.lines[13], "10 0");
+        assert!(answered.lines[14].starts_with("panel 2 2 frames 1 next dead1001 "));
+        // 0xFF eight times, then 0 twice.
+        assert_eq!(answered.lines[17..], ["crc 2144df1c 41d912ff"]);
+        let lines: Vec<_> = answered.steps.iter().map(|done| done.lines.clone()).collect();
+        assert_eq!(lines, [1..4, 4..5, 5..9, 9..13, 13..14]);
+    }
+
+    #[test]
+    fn where_open_is_refused_nothing_is_looked_at() {
+        let refused = Header { height: 3, ..SMALL }.bytes();
+        assert_eq!(printed(&[refused.clone(), vec![LOOK]].concat()), printed(&refused));
     }
 
     #[test]
@@ -238,8 +289,8 @@ mod tests {
         let fill = Call::PanelFill { word: 0x6162 }.bytes();
         let script = [SMALL.bytes(), Call::Resize { width: 1, height: 1 }.bytes(), fill].concat();
         assert_eq!(picture(&script).unwrap(), b"P6\n1 1\n255\nc,\x10");
-        // Also of the panel before a bad call.
-        let script = [script, vec![0x00, 0x10]].concat();
+        // Also of the panel before a bad call; looks are ignored.
+        let script = [script, vec![LOOK, 0x00, 0x10, LOOK]].concat();
         assert_eq!(picture(&script).unwrap(), b"P6\n1 1\n255\nc,\x10");
         let black = [b"P6\n2 2\n255\n".as_slice(), &[0; 12]].concat();
         assert_eq!(picture(&SMALL.bytes()).unwrap(), black);

@@ -3,19 +3,20 @@
 
 use pocket_kernel::gdi::{rop3, GDI_SCREEN_DC, STOCK_WHITE_BRUSH};
 
-use super::call::{Call, KINDS, MAX_UNITS};
+use super::call::{Call, MAX_UNITS};
 use super::script::{Header, HEADER, MOST_PANEL, MOST_STORE};
+use super::step::{begins_step, Step};
 use crate::rng::Rng;
 
-/// The script of these calls; at times something is wrong with it.
-pub fn spoil(rng: &mut Rng, header: Header, calls: &[Call]) -> Vec<u8> {
+/// The script of these steps; at times something is wrong with it.
+pub fn spoil(rng: &mut Rng, header: Header, steps: &[Step]) -> Vec<u8> {
     let header = match rng.below(32) {
         0 => too_large(rng, header),
         1..=3 => refused(rng, header),
         _ => header,
     };
     let mut script = header.bytes();
-    calls.iter().for_each(|call| call.write(&mut script));
+    steps.iter().for_each(|step| step.write(&mut script));
     match rng.below(32) {
         0 => script.truncate(rng.below(HEADER as u64) as usize),
         1 => {
@@ -77,10 +78,9 @@ fn end(rng: &mut Rng, script: &mut Vec<u8>) {
     }
 }
 
-/// A byte that is no call's, often one of the lowest.
+/// A byte that begins no step, often one of the lowest.
 fn unknown(rng: &mut Rng) -> u8 {
-    let unknown = |byte: &u8| KINDS.iter().all(|kind| kind.0 != *byte);
-    let unknown: Vec<u8> = (0..=u8::MAX).filter(unknown).collect();
+    let unknown: Vec<u8> = (0..=u8::MAX).filter(|byte| !begins_step(*byte)).collect();
     let most = if rng.one_in(2) { 8 } else { unknown.len() };
     rng.pick(&unknown[..most])
 }

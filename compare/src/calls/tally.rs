@@ -15,6 +15,7 @@ pub struct Tally {
     /// Scripts by their first line.
     begun: Counts<5>,
     bad_calls: u64,
+    looks: u64,
     /// Calls, those accepted and those that changed a pixel, in the order of
     /// `KINDS`.
     kinds: [[u64; 3]; KINDS.len()],
@@ -40,6 +41,7 @@ impl Tally {
             // No memory that the program serves is above open's limit, so 8 is not to be seen.
             begun: Counts::new(["open 0", "open 6", "open 7", "bad script", "too large"]),
             bad_calls: 0,
+            looks: 0,
             kinds: [[0; 3]; KINDS.len()],
             refused: Counts::new(["1", "2", "3", "4", "5", "6", "7"]),
             too_long: 0,
@@ -60,6 +62,10 @@ impl Tally {
 
     pub fn bad_call(&mut self) {
         self.bad_calls += 1;
+    }
+
+    pub fn look(&mut self) {
+        self.looks += 1;
     }
 
     pub fn drop_some(&mut self, calls: u64) {
@@ -114,6 +120,11 @@ impl Tally {
         self.kinds.iter().map(|kind| kind[0]).sum()
     }
 
+    #[cfg(test)]
+    pub fn looks(&self) -> u64 {
+        self.looks
+    }
+
     /// The least of all counts that are to be above 0.
     #[cfg(test)]
     pub fn least(&self) -> u64 {
@@ -131,7 +142,8 @@ impl Tally {
             let changed = if is_drawing(*byte) { changed } else { calls };
             [calls, accepted, changed]
         });
-        kinds.chain(answers).chain(others).chain(self.moved).min().unwrap_or_default()
+        let all = kinds.chain(answers).chain(others).chain(self.moved).chain([self.looks]);
+        all.min().unwrap_or_default()
     }
 
     #[cfg(test)]
@@ -181,6 +193,7 @@ impl fmt::Display for Tally {
             writeln!(f, "{}", line.trim_end())?;
         }
         writeln!(f, "accepted drawings that changed a pixel: {} %", self.share_changed())?;
+        writeln!(f, "looks {}", self.looks)?;
         writeln!(f, "scripts: {}; ended by a bad call: {}", self.begun, self.bad_calls)?;
         writeln!(f, "refused: {}, 10 {}", self.refused, self.too_long)?;
         writeln!(f, "deleted: {}", self.deleted)?;

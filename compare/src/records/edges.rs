@@ -23,6 +23,7 @@ pub fn base() -> Record {
         frame_counter: u64::MAX,
         next_handle: 0,
         stock_dirty: 1,
+        screen: SCREEN,
         count: 6,
         slots: objects.map(|(handle, object)| Slot { handle, object }).to_vec(),
         panel_lent: 12,
@@ -56,6 +57,7 @@ pub fn records() -> Vec<Record> {
     let mut records = vec![base()];
     lent(&mut records);
     handles(&mut records);
+    memory_screens(&mut records);
     sides(&mut records);
     lengths(&mut records);
     counts(&mut records);
@@ -77,7 +79,7 @@ fn lent(records: &mut Vec<Record>) {
     }
 }
 
-/// Handles that no created object may have, or that two have; screen DCs.
+/// Handles that no created object may have, or that two have; created screen DCs.
 fn handles(records: &mut Vec<Record>) {
     for handle in STOCK.into_iter().chain([0]) {
         add(records, |record| record.slots[3].handle = handle);
@@ -89,6 +91,17 @@ fn handles(records: &mut Vec<Record>) {
         add(records, |record| record.slots[at].object = dc(SCREEN));
         add(records, |record| record.slots[at].object = dc(MEMORY));
     }
+}
+
+/// Screen DCs that say `memory`, which is not looked at: with and without created
+/// objects, with a wrong lent length, with a created DC that says `screen`.
+fn memory_screens(records: &mut Vec<Record>) {
+    add(records, |record| record.screen = MEMORY);
+    add(records, |record| (record.screen, record.count) = (MEMORY, 0));
+    records.push(Record { screen: MEMORY, panel_lent: 13, ..base() });
+    add(records, |record| {
+        (record.screen, record.slots[0].object) = (MEMORY, dc(SCREEN));
+    });
 }
 
 /// The shortest and the longest sides, and those next to them.
@@ -143,6 +156,7 @@ mod tests {
         assert_eq!(base().refusal(), 0);
         assert_eq!(refusals(lent), "8889");
         assert_eq!(refusals(handles), "9999999999999".to_string() + "999999" + "909090");
+        assert_eq!(refusals(memory_screens), "0089");
         assert_eq!(refusals(sides), "999999".to_string() + "000099" + "000099" + "999999");
         assert_eq!(refusals(lengths), "9900008899999999".to_string() + "9");
         assert_eq!(refusals(counts), "00099999".to_string() + "0099999");

@@ -2,7 +2,7 @@
 
 use pocket_kernel::gdi::is_stock_handle;
 
-use super::record::{Object, Record, Slot, MEMORY, MOST_LENT};
+use super::record::{Object, Record, Slot, MEMORY, MOST_LENT, SCREEN};
 use super::tally::Tally;
 use super::wrong::{junk, WRONG};
 use crate::calls::{bytes_of, MAX_MEMORY, MAX_OBJECTS, MAX_SIDE};
@@ -53,6 +53,7 @@ fn sound(rng: &mut Rng, least: usize) -> Record {
         frame_counter: rng.pick(&[0, counter, u64::MAX]),
         next_handle: rng.next() as u32,
         stock_dirty: rng.below(2) as u8,
+        screen: if rng.one_in(8) { MEMORY } else { SCREEN },
         count: count as u64,
         slots: handles.map(|handle| Slot { handle, object: object(rng) }).collect(),
         panel_lent: 0,

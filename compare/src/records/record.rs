@@ -46,6 +46,8 @@ pub struct Record {
     pub frame_counter: u64,
     pub next_handle: u32,
     pub stock_dirty: u8,
+    /// The screen DC's surface; the rest of it is as on a fresh bench.
+    pub screen: u8,
     pub count: u64,
     /// The slots given; the others are vacant.
     pub slots: Vec<Slot>,
@@ -67,7 +69,8 @@ impl Record {
         }
     }
 
-    /// Whether the record is sound, by the specification's list.
+    /// Whether the record is sound, by the specification's list. Only created DCs
+    /// have to be memory DCs: the screen DC's surface is not looked at.
     pub fn is_sound(&self) -> bool {
         let side = |n| (1..=MAX_SIDE).contains(&n);
         let created = self.count.min(self.slots.len() as u64) as usize;
@@ -115,13 +118,14 @@ impl Record {
             frame_counter: u64::read(stream)?,
             next_handle: u32::read(stream)?,
             stock_dirty: u8::read(stream)?,
+            screen: u8::read(stream)?,
             count: u64::read(stream)?,
             slots: Vec::new(),
             panel_lent: 0,
             store_lent: 0,
         };
         let given = u16::read(stream)?;
-        if record.stock_dirty > 1 || usize::from(given) > MAX_OBJECTS {
+        if record.stock_dirty.max(record.screen) > 1 || usize::from(given) > MAX_OBJECTS {
             return None;
         }
         record.slots = (0..given).map(|_| Slot::read(stream)).collect::<Option<_>>()?;
@@ -139,6 +143,7 @@ impl Record {
         self.frame_counter.write(stream);
         self.next_handle.write(stream);
         self.stock_dirty.write(stream);
+        self.screen.write(stream);
         self.count.write(stream);
         (self.slots.len() as u16).write(stream);
         for slot in &self.slots {
@@ -179,13 +184,14 @@ mod tests {
     fn records_are_written_and_read() {
         let mut bytes = Vec::new();
         base().write(&mut bytes);
-        assert_eq!(bytes.len(), 47 + 2 * 44 + 14 + 9 + 13 + 9 + 8);
+        assert_eq!(bytes.len(), 48 + 2 * 44 + 14 + 9 + 13 + 9 + 8);
         assert_eq!(Record::read(&mut bytes.as_slice()), Some(base()));
         for len in 0..bytes.len() {
             assert_eq!(Record::read(&mut &bytes[..len]), None);
         }
-        // The stock bitmap's flag, the slots given, the first slot's kind and surface.
-        for (at, byte) in [(36, 2), (45, 1), (51, 5), (52, 2)] {
+        // The stock bitmap's flag and the screen DC's, the slots given, the first slot's
+        // kind and surface.
+        for (at, byte) in [(36, 2), (37, 2), (46, 1), (52, 5), (53, 2)] {
             let mut bytes = bytes.clone();
             bytes[at] = byte;
             bytes.resize(20_000, 0);
@@ -222,5 +228,15 @@ mod tests {
         // What is past the count is not looked at.
         assert_eq!(refusal(|record| (record.slots[5].handle, record.count) = (9, 5)), 0);
         assert_eq!(refusal(|record| record.slots[5].object = dc(SCREEN)), 9);
+    }
+
+    #[test]
+    fn the_screen_dc_is_not_asked() {
+        assert_eq!(refusal(|record| record.screen = MEMORY), 0);
+        assert_eq!(refusal(|record| (record.screen, record.store_lent) = (MEMORY, 11)), 8);
+        assert_eq!(refusal(|record| (record.screen, record.count) = (MEMORY, 7)), 9);
+        let mut bytes = Vec::new();
+        Record { screen: MEMORY, ..base() }.write(&mut bytes);
+        assert_eq!(Record::read(&mut bytes.as_slice()), Some(Record { screen: MEMORY, ..base() }));
     }
 }

@@ -74,7 +74,8 @@ fn spoil(rng: &mut Rng, stream: &mut Vec<u8>) {
         2 => record.panel_lent = MOST_LENT + 1,
         3 => record.store_lent = u32::MAX,
         4 => record.stock_dirty = 2,
-        5 => {
+        5 => record.screen = 2,
+        6 => {
             record.write(stream);
             let cut = 1 + rng.below(stream.len() as u64 - end - 1);
             return stream.truncate((end + cut) as usize);

@@ -2,7 +2,7 @@
 
 use std::fmt;
 
-use super::record::{Record, KINDS};
+use super::record::{Record, KINDS, MEMORY};
 use super::wrong::WRONG;
 use crate::counts::{listed, Counts};
 
@@ -16,6 +16,8 @@ pub struct Tally {
     unsorted: u64,
     /// Records with as many objects as there can be.
     full: u64,
+    /// Records that are not refused though their screen DC says `memory`.
+    memory_screens: u64,
 }
 
 impl Tally {
@@ -26,6 +28,7 @@ impl Tally {
             kinds: [0; KINDS.len()],
             unsorted: 0,
             full: 0,
+            memory_screens: 0,
         }
     }
 
@@ -41,6 +44,7 @@ impl Tally {
         }
         self.unsorted += u64::from(!record.slots.is_sorted_by_key(|slot| slot.handle));
         self.full += u64::from(record.count == 256);
+        self.memory_screens += u64::from(record.screen == MEMORY && refusal == 0);
     }
 
     /// All records that were read.
@@ -51,8 +55,9 @@ impl Tally {
     /// The least of all counts.
     #[cfg(test)]
     pub fn least(&self) -> u64 {
-        let others = [self.refused.least(), self.wrong.least(), self.unsorted, self.full];
-        self.kinds.into_iter().chain(others).min().unwrap_or_default()
+        let others = [self.unsorted, self.full, self.memory_screens];
+        let counts = [self.refused.least(), self.wrong.least()];
+        self.kinds.into_iter().chain(counts).chain(others).min().unwrap_or_default()
     }
 }
 
@@ -62,6 +67,7 @@ impl fmt::Display for Tally {
         writeln!(f, "records by refusal: {}", self.refused)?;
         writeln!(f, "made unsound: {}", self.wrong)?;
         writeln!(f, "slots: {}", listed(&names, &self.kinds))?;
-        write!(f, "handles not in order: {}; 256 objects: {}", self.unsorted, self.full)
+        writeln!(f, "handles not in order: {}; 256 objects: {}", self.unsorted, self.full)?;
+        write!(f, "not refused, with a screen DC that says memory: {}", self.memory_screens)
     }
 }

@@ -18,6 +18,7 @@ use Rattle.plan.specs.declared.Outcome.{Outcome}
 use Rattle.plan.specs.declared.Point.{Point}
 use Rattle.paint.specs.Memories.{Memories}
 use Rattle.paint.specs.Paint.{paintedBy, after}
+use Rattle.plan.specs.Stroke.{dirtiedBy, paintsOf}
 use Rattle.plan.specs.Drawing.{packedOf, onSource, patternFill, blittedAt, blitOn, blit}
 use Rattle.plan.specs.Calls.{Followed}
 use Rattle.transfer.specs.Transfer.{Beside, transferred}
@@ -33,7 +34,7 @@ module _ {b : GdiState} {s q : SurfaceId} {at from : Place} (i : Placed b s at) 
   drawn-found : (a : Area) (p : Point) (table : ℕ) (d : Dc) {c : ℕ} {due : Bool} {r : GdiState} {ms ms′ : Memories} → c ≡ packedOf (d .«brush_color»)
       → (due ≡ blittedAt at from a p) × (ms′ ≡ transferred at from a p table c ms) → r ≡ dirtiedIf due s b
       → Followed (blitOn b a p table s d q) b ms (record { state = r; answer = Drawn }) ms′
-  unfolding after paintedBy
+  unfolding after paintedBy dirtiedBy paintsOf
   drawn-found a p table d color (mark, new) marked =
       record { outcome = rw (marked, mark, i .same, j .same); memories = new ∙ rw (color, i .same, j .same) }
 

@@ -1,7 +1,7 @@
 -- What a drawing on a surface's place leaves is its plan's paint and mark; so two, one after the other. Assumes nothing.
 use mathlib.Core.Bool.{Bool, cond}
 use mathlib.Core.List.{List, [], _∷_}
-use mathlib.Core.Path.{_≡_, refl, sym, _∙_, ap}
+use mathlib.Core.Path.{_≡_, refl, _∙_, ap, subst}
 use Prim.Native.Nat.{ℕ, _≤_, _<_}
 use lib.Dec.{leb}
 use borrow.Author.Tests.{le-leb, lt-leb}
@@ -14,21 +14,21 @@ use Rattle.place.specs.declared.Place.{Place}
 use Rattle.place.specs.declared.SurfaceId.{SurfaceId}
 use Rattle.place.specs.declared.Target.{Target}
 use Rattle.place.specs.declared.Target.the-variants.{On}
-use Rattle.place.specs.Place.{whereIs, targetOf, Within, Placed}
+use Rattle.place.specs.Place.{targetOf, Within, Placed}
+use Rattle.place.proofs.Same.{Still}
 use Rattle.dirty.specs.Dirty.{dirtiedIf}
-use Rattle.dirty.proofs.Still.{dirtied-if-still}
-use Rattle.plan.specs.declared.Answer.{Answer}
 use Rattle.plan.specs.declared.Answer.the-variants.{Refused}
 use Rattle.plan.specs.declared.Area.{Area}
 use Rattle.plan.specs.declared.Outcome.{Outcome}
 use Rattle.plan.specs.declared.Point.{Point}
 use Rattle.paint.specs.Memories.{Memories, widthOf, over}
-use Rattle.paint.specs.Paint.{Paint, draw, paintedBy, after}
+use Rattle.paint.specs.Paint.{paintedBy, after}
 use Rattle.plan.specs.Plan.{Plan, refuse}
-use Rattle.plan.specs.Drawing.{drew, patterned, marksAt, patternFillOn, patternFill, rectangleOn, rectangle, textOn, text}
+use Rattle.plan.specs.Stroke.{dirtiedBy, paintsOf, Stroked}
+use Rattle.plan.specs.Drawing.{patterned, marksAt, patternFillOn, patternFill, rectangleOn, rectangle, textOn, text}
 use Rattle.plan.specs.Calls.{Followed}
 use Rattle.canvas.specs.declared.Drawing.{Drawing}
-use Rattle.canvas.specs.Canvas.{regionOf, tableFor, marksOf, drawnOf}
+use Rattle.canvas.specs.Canvas.{regionOf, tableFor, marksOf, drawnOf, strokeOf}
 use Rattle.draw.proofs.Targeted.{Targeted, refused, followed-as, on}
 
 -- the calls by their DC's target
@@ -66,53 +66,22 @@ module _ (b : GdiState) (us : List ℕ) (dc : ℕ) (at : Point) {t : Target} (e 
 pub within-lent : {b : GdiState} {n k : ℕ} {s : SurfaceId} {at : Place} → Ready b n k → Placed b s at → Within n k at
 within-lent q w = rw (q .panel, q .store) (w .within)
 
--- a mark and bytes at the place that was found are those at the surface's place
-module _ {b : GdiState} {s : SurfaceId} {at : Place} (w : Placed b s at) where
-  pub marked-there : (f : (width height : ℕ) → Bool) {due : Bool} {r : GdiState} → due ≡ marksAt at f → r ≡ dirtiedIf due s b
-      → r ≡ dirtiedIf (marksAt (whereIs b s) f) s b
-  marked-there f m q = q ∙ ap (λ (z : Bool). dirtiedIf z s b) (m ∙ ap (λ (z : Place). marksAt z f) (w .same))
+-- a mark and bytes at the place that was found are the stroke's
+pub stroke-made : {b : GdiState} {s : SurfaceId} {at : Place} → Placed b s at → (g : Drawing) (us : List ℕ) (c : ℕ) {due : Bool} {r : GdiState} {ms ms′ : Memories}
+    → due ≡ marksAt at (marksOf g) → r ≡ dirtiedIf due s b → ms′ ≡ over at (drawnOf g us c (widthOf at)) ms → Stroked b (strokeOf b s g us c ∷ []) ms r ms′
+unfolding after paintedBy dirtiedBy paintsOf
+stroke-made {b} {s} w g us c {ms = ms} m q z =
+    record {
+      state = q ∙ ap (λ (t : Bool). dirtiedIf t s b) (m ∙ ap (λ (at : Place). marksAt at (marksOf g)) (w .same));
+      memories = z ∙ ap (λ (at : Place). over at (drawnOf g us c (widthOf at)) ms) (w .same);
+    }
 
-  pub drawn-there : (f : (width : ℕ) → List ℕ → List ℕ) (ms : Memories) {ms′ : Memories} → ms′ ≡ over at (f (widthOf at)) ms
-      → ms′ ≡ over (whereIs b s) (f (widthOf (whereIs b s))) ms
-  drawn-there f ms q = q ∙ ap (λ (z : Place). over z (f (widthOf z)) ms) (w .same)
+module _ (s : SurfaceId) (g : Drawing) (us : List ℕ) {ms : Memories} {r : GdiState} {ms′ : Memories} where
+  -- a stroke in the colour k, which the code has as c
+  pub in-colour : {b : GdiState} {c k : ℕ} → c ≡ k → Stroked b (strokeOf b s g us c ∷ []) ms r ms′ → Stroked b (strokeOf b s g us k ∷ []) ms r ms′
+  in-colour {b} e x = subst (λ (z : ℕ). Stroked b (strokeOf b s g us z ∷ []) ms r ms′) e x
 
--- the record and the memories after a drawing, and its paint
-abbrev marked : GdiState → SurfaceId → Drawing → GdiState
-marked b s g = dirtiedIf (marksAt (whereIs b s) (marksOf g)) s b
-
-abbrev drawnBy : GdiState → SurfaceId → Drawing → (units : List ℕ) → (color : ℕ) → Memories → Memories
-drawnBy b s g us c ms = over (whereIs b s) (drawnOf g us c (widthOf (whereIs b s))) ms
-
-abbrev paintOf : SurfaceId → Drawing → (units : List ℕ) → (color : ℕ) → Paint
-paintOf s g us c = draw (patterned s (regionOf g us) (tableFor g) c)
-
--- the record after a drawing is lent with the same memories
-pub ready-again : {b r : GdiState} {n k n′ k′ : ℕ} (s : SurfaceId) (g : Drawing) → r ≡ marked b s g → n′ ≡ n → k′ ≡ k → Ready b n k
-    → Ready r n′ k′
-ready-again {b} s g e p q i =
-    let t = dirtied-if-still (marksAt (whereIs b s) (marksOf g)) s b in
-    rw e (record { sound = t .sound (i .sound); panel = p ∙ i .panel ∙ sym (t .panel-len); store = q ∙ i .store ∙ sym (t .store-len) })
-
--- one drawing in the colour k, which the code has as c
-pub drawn-once : {b : GdiState} {s : SurfaceId} (g : Drawing) (us : List ℕ) {c k : ℕ} → c ≡ k → (answer : Answer) (ms : Memories)
-    → {r : GdiState} {ms′ : Memories} → r ≡ marked b s g → ms′ ≡ drawnBy b s g us c ms
-    → Followed (drew (marked b s g) answer (paintOf s g us k ∷ [])) b ms (record { state = r; answer = answer }) ms′
-unfolding after paintedBy
-drawn-once g us color answer ms m q = rw (m, ← color) (record { outcome = refl; memories = q })
-
--- two drawings on one surface, the second on the record with the first one's mark
-module _ {b r₁ r : GdiState} (s : SurfaceId) (g g′ : Drawing) (us us′ : List ℕ) {c k c′ k′ : ℕ} (color : c ≡ k) (color′ : c′ ≡ k′)
-    (answer : Answer) where
-  pub drawn-twice : (ms ms₁ : Memories) {ms′ : Memories} → r₁ ≡ marked b s g → ms₁ ≡ drawnBy b s g us c ms → r ≡ marked r₁ s g′
-      → ms′ ≡ drawnBy r₁ s g′ us′ c′ ms₁
-      → Followed (drew (dirtiedIf (marksAt (whereIs b s) (marksOf g′)) s (marked b s g)) answer (paintOf s g us k ∷ paintOf s g′ us′ k′ ∷ []))
-      b ms (record { state = r; answer = answer }) ms′
-  unfolding after paintedBy
-  drawn-twice ms ms₁ {ms′} m q m′ q′ =
-      let still : whereIs r₁ s ≡ whereIs b s
-      = ap (λ (z : GdiState). whereIs z s) m ∙ dirtied-if-still (marksAt (whereIs b s) (marksOf g)) s b .places s in
-      let state : r ≡ dirtiedIf (marksAt (whereIs b s) (marksOf g′)) s (marked b s g)
-      = m′ ∙ ap (λ (z : Place). dirtiedIf (marksAt z (marksOf g′)) s r₁) still ∙ ap (dirtiedIf (marksAt (whereIs b s) (marksOf g′)) s) m in
-      let bytes : ms′ ≡ drawnBy b s g′ us′ c′ (drawnBy b s g us c ms)
-      = q′ ∙ ap (λ (z : Place). over z (drawnOf g′ us′ c′ (widthOf z)) ms₁) still ∙ ap (drawnBy b s g′ us′ c′) q in
-      rw (← color, ← color′) (record { outcome = rw state; memories = bytes })
+  -- one that was made behind others is the one that was due before them
+  pub in-place : {b b′ : GdiState} {c : ℕ} → Still b b′ → Stroked b′ (strokeOf b′ s g us c ∷ []) ms r ms′ → Stroked b′ (strokeOf b s g us c ∷ []) ms r ms′
+  in-place {b′ = b′} {c = c} t x =
+      subst (λ (at : Place). Stroked b′ (record { drawing = patterned s (regionOf g us) (tableFor g) c; due = marksAt at (marksOf g) } ∷ []) ms r ms′) (t .places s) x

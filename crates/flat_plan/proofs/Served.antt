@@ -1,6 +1,6 @@
 -- From a plan that was followed to the numbers. Assumes nothing.
 use mathlib.Core.Bool.{true}
-use mathlib.Core.List.{List, []}
+use mathlib.Core.List.{List, [], _++_}
 use mathlib.Core.Path.{_≡_, refl, sym, _∙_, ap, subst}
 use Prim.Native.Nat.{ℕ}
 use lib.ListN.{drop}
@@ -11,8 +11,10 @@ use Rattle.paint.specs.Paint.{Paint, after}
 use Rattle.plan.specs.declared.Answer.{Answer}
 use Rattle.plan.specs.declared.Outcome.{Outcome}
 use Rattle.plan.specs.Plan.{Plan}
+use Rattle.plan.specs.Stroke.{Stroke, drawnBy, Stroked}
 use Rattle.plan.specs.Calls.{Followed, Done, DoneOnPanel}
-use Rattle.flat_plan.specs.Served.{Served, Told, ServedInStore, ServedOnPanel}
+use Rattle.plan.proofs.Strokes.{dirtied-by-count, stroked-then, stroked-followed}
+use Rattle.flat_plan.specs.Served.{Served, Told, ServedInStore, ServedOnPanel, StrokedOn}
 
 -- numbers that are a record are it
 pub stored-same : {l : List ℕ} → isRecord l ≡ true → Stored l (view l) l
@@ -53,3 +55,21 @@ served-in-store d s panel = served-by (record { outcome = d .outcome; memories =
 
 pub served-on-panel : {l l′ : List ℕ} {p : Plan} {panel panel′ : List ℕ} {b : GdiState} {a : Answer} → DoneOnPanel p (view l) panel (record { state = b; answer = a }) panel′ → Stored l b l′ → ServedOnPanel p l panel a l′ panel′
 served-on-panel d s store = served-by (record { outcome = d .outcome; memories = d .memories store }) s
+
+-- strokes on the numbers are strokes on the record that they are; strokes made in two steps are the strokes of one list
+pub stroked-on : {l l′ : List ℕ} {ss : List Stroke} {ms ms′ : Memories} → StrokedOn l ss ms l′ ms′ → Stroked (view l) ss ms (view l′) ms′
+stroked-on x = record { state = x .numbers .same; memories = x .memories }
+
+pub stroked-on-then : {l l₁ l′ : List ℕ} {ss ts : List Stroke} {ms ms₁ ms′ : Memories} → StrokedOn l ss ms l₁ ms₁ → StrokedOn l₁ ts ms₁ l′ ms′ → StrokedOn l (ss ++ ts) ms l′ ms′
+stroked-on-then {l} {l₁} {l′} {ss} {ts} x y =
+    let z = stroked-then (stroked-on x) (stroked-on y) in
+    record {
+      numbers = subst (λ (b : GdiState). Stored l b l′) (sym (y .numbers .same) ∙ z .state)
+          (stored-twice (dirtied-by-count ts (view l₁) ∙ ap (λ (b : GdiState). b .count) (x .numbers .same)) (x .numbers) (y .numbers));
+      memories = z .memories;
+    }
+
+-- a call that made them, whose plan is theirs by f
+pub served-strokes : {l l′ : List ℕ} {ss : List Stroke} {ms ms′ : Memories} {p : Plan} {a : Answer} → StrokedOn l ss ms l′ ms′
+    → (f : Followed (drawnBy (view l) ss a) (view l) ms (record { state = view l′; answer = a }) ms′ → Followed p (view l) ms (record { state = view l′; answer = a }) ms′) → Served p l ms a l′ ms′
+served-strokes {l} {l′} {a = a} x f = served-by (f (stroked-followed (stroked-on x) a)) (subst (λ (b : GdiState). Stored l b l′) (sym (x .numbers .same)) (x .numbers))

@@ -7,6 +7,7 @@ use Rattle.paint.specs.Memories.{Memories}
 use Rattle.paint.specs.Paint.{after}
 use Rattle.plan.specs.declared.Answer.{Answer}
 use Rattle.plan.specs.Plan.{Plan}
+use Rattle.plan.specs.Stroke.{Stroke, dirtiedBy, paintsOf}
 
 -- A plan was followed on the record that the numbers are: the answer, the record that they are then, and both memories, are the
 -- plan's.
@@ -24,3 +25,8 @@ ServedInStore p l store r l′ store′ = (panel : List ℕ) → Served p l (rec
 
 abbrev pub ServedOnPanel : Plan → (l panel : List ℕ) → Answer → (l′ panel′ : List ℕ) → Type 0
 ServedOnPanel p l panel r l′ panel′ = (store : List ℕ) → Served p l (record { panel = panel; store = store }) r l′ (record { panel = panel′; store = store })
+
+-- Strokes were made on the record that the numbers are.
+pub record StrokedOn (l : List ℕ) (ss : List Stroke) (ms : Memories) (l′ : List ℕ) (ms′ : Memories) : Type 0 where
+  pub numbers : Stored l (dirtiedBy (view l) ss) l′
+  pub memories : ms′ ≡ after (view l) (paintsOf ss) ms

@@ -1,5 +1,4 @@
-// A surface as one value.
-// A surface: its pixel bytes, lent, with its sides.
+// A surface as one value: its pixel bytes, lent, with its sides.
 pub struct Surface<'a> {
     pub pixels: &'a mut [u8],
     pub width: u32,

@@ -1,16 +1,19 @@
--- A new object, and the panel at a new size: their pixels are black, and every other pixel stays. Assumes nothing.
+-- Blanked bytes: cleared surfaces are black, and every other pixel keeps its colour. New objects and the resized panel are
+-- cases of it. Assumes nothing.
 use mathlib.Core.Bool.{Bool, true, false, cond, not}
 use mathlib.Core.List.{List, [], _∷_, _++_}
 use mathlib.Core.Path.{_≡_, refl, sym, _∙_, ap, subst}
-use Prim.Native.Nat.{ℕ, zero, suc, _+_, _*_, _≤_, _<_}
+use Prim.Native.Nat.{ℕ, zero, suc, _+_, _-_, _*_, _≤_, _<_}
 use native.Mathlib.Omega.{arith}
 use lib.Dec.{eqb}
-use lib.ListN.{length, replicate, length-replicate}
+use lib.ListN.{length, drop, replicate, length-replicate, getD-replicate}
+use lib.Seq.{getD-take, getD-drop, ext-getD}
 use borrow.Author.Tests.{eqb-true, eqb-false, eq-eqb, ne-eqb, not-true}
 use Rattle.laws.proofs.Test.{each}
 use Rattle.laws.proofs.Sum.{sum-suc}
 use Rattle.words.specs.Words.{word}
-use Rattle.words.proofs.Parts.{length-with, part-same, part-other}
+use Rattle.words.specs.Parts.{part}
+use Rattle.words.proofs.Parts.{length-part, length-with, with-within, part-other}
 use Rattle.gdi.specs.declared.GdiState.{GdiState}
 use Rattle.gdi.specs.declared.Slot.{Slot}
 use Rattle.gdi.specs.declared.GdiObject.{GdiObject}
@@ -22,6 +25,7 @@ use Rattle.sound.specs.Sound.{startOf, used, isSound}
 use Rattle.sound.proofs.Sound.{parts, whole}
 use Rattle.sound.proofs.Bytes.{start-none}
 use Rattle.memory.specs.Gap.{blanked}
+use Rattle.place.specs.declared.Memory.{Memory}
 use Rattle.place.specs.declared.Memory.the-variants.{Panel as PanelMemory, Store}
 use Rattle.place.specs.declared.Place.{Place}
 use Rattle.place.specs.declared.Place.the-variants.{Nowhere, At}
@@ -31,11 +35,93 @@ use Rattle.place.specs.Place.{slotsFrom, live, frameOf, locate, whereIs, Within
 use Rattle.place.proofs.Apart.{clash, From, nothing, some, bitmap-from, places}
 use Rattle.handles.specs.Handles.{newHandle, added}
 use Rattle.handles.proofs.Added.{newSlot, live-added, new-absent, new-no-stock}
-use Rattle.paint.specs.Memories.{Memories, memories, widthOf, pixelsAt, colourAt}
-use Rattle.paint.specs.Paint.{blank, paintedBy}
+use Rattle.paint.specs.Memories.{Memories, memoryOf, withMemory, widthOf, inside, pixelsAt, colourAt}
+use Rattle.paint.specs.Paint.{blank, only, paintedBy}
 use Rattle.paint.specs.Marks.{Marks, markedBy}
-use Rattle.paint.specs.Memories.{inside}
 use Rattle.paint.proofs.Alike.{Alike}
+
+-- a surface that has no place, or whose bytes are all among the n of the memory from p on
+pub data Among (p n : ℕ) : Memory → Place → Type 0 where
+  no-place : {k : Memory} → Among p n k Nowhere
+  within : {k : Memory} {q w h : ℕ} → p ≤ q → q + size w h ≤ p + n → Among p n k (At k q w h)
+
+-- a surface that has no place, or none of whose bytes is among them
+pub data Off (p n : ℕ) : Memory → Place → Type 0 where
+  no-bytes : {k : Memory} → Off p n k Nowhere
+  on-panel : {q w h : ℕ} → Off p n Store (At PanelMemory q w h)
+  in-store : {q w h : ℕ} → Off p n PanelMemory (At Store q w h)
+  below : {k : Memory} {q w h : ℕ} → q + size w h ≤ p → Off p n k (At k q w h)
+  above : {k : Memory} {q w h : ℕ} → p + n ≤ q → Off p n k (At k q w h)
+
+-- what is asked of each surface: it is cleared and lies among the blanked bytes now; or it is not, and lies off them where it
+-- lay before
+pub data Blanked (k : Memory) (p n : ℕ) : (cleared : Bool) → (then now : Place) → Type 0 where
+  new : {then now : Place} → Among p n k now → Blanked k p n true then now
+  old : {then now : Place} → now ≡ then → Off p n k then → Blanked k p n false then now
+
+-- the memories with the n bytes of one of them from p on at 0
+abbrev blacked : Memories → Memory → (p n : ℕ) → Memories
+blacked ms k p n = withMemory ms k (blanked (memoryOf ms k) p n)
+
+memory-put : (ms : Memories) (k : Memory) (l : List ℕ) → memoryOf (withMemory ms k l) k ≡ l
+memory-put ms PanelMemory l = refl
+memory-put ms Store l = refl
+
+module _ (ms : Memories) (p n : ℕ) where
+  off-pixels : {k : Memory} {at : Place} → Off p n k at → p + n ≤ length (memoryOf ms k) → pixelsAt (blacked ms k p n) at ≡ pixelsAt ms at
+  off-pixels no-bytes fits = refl
+  off-pixels on-panel fits = refl
+  off-pixels in-store fits = refl
+  off-pixels (below {k = k} {q = q} {w = w} {h = h} e) fits =
+      rw (memory-put ms k (blanked (memoryOf ms k) p n)) (part-other (memoryOf ms k) (replicate n 0) p n (length-replicate n 0) fits q (size w h) (λ j a b c d. omega arith))
+  off-pixels (above {k = k} {q = q} {w = w} {h = h} e) fits =
+      rw (memory-put ms k (blanked (memoryOf ms k) p n)) (part-other (memoryOf ms k) (replicate n 0) p n (length-replicate n 0) fits q (size w h) (λ j a b c d. omega arith))
+
+-- a part of blanked bytes
+part-black : (m : List ℕ) (p n q c : ℕ) → p + n ≤ length m → p ≤ q → q + c ≤ p + n → part (blanked m p n) q c ≡ replicate c 0
+part-black m p n q c fits le lt =
+    ext-getD 0 (part (blanked m p n) q c) (replicate c 0) (length-part (blanked m p n) q c (omega (arith, long)) ∙ sym (length-replicate c 0))
+    (λ i few. let r : i < c = omega (arith, length-part (blanked m p n) q c (omega (arith, long))) in
+    getD-take c (drop q (blanked m p n)) i 0 r
+    ∙ getD-drop q (blanked m p n) i 0
+    ∙ with-within m (replicate n 0) p n (length-replicate n 0) fits (q + i) (omega arith) (omega arith)
+    ∙ getD-replicate n (q + i - p) 0 0 (omega arith)
+    ∙ sym (getD-replicate c i 0 0 r))
+  where
+    long : length (blanked m p n) ≡ length m
+    long = length-with m (replicate n 0) p n (length-replicate n 0) fits
+
+among-alike : (p n : ℕ) {k : Memory} {at : Place} → Among p n k at → (ms ns : Memories) → p + n ≤ length (memoryOf ms k) → p + n ≤ length (memoryOf ns k)
+    → pixelsAt (blacked ms k p n) at ≡ pixelsAt (blacked ns k p n) at
+among-alike p n no-place ms ns f g = refl
+among-alike p n (within {k = k} {q = q} {w = w} {h = h} a b) ms ns f g =
+    rw (memory-put ms k (blanked (memoryOf ms k) p n), memory-put ns k (blanked (memoryOf ns k) p n))
+    (part-black (memoryOf ms k) p n q (size w h) f a b ∙ sym (part-black (memoryOf ns k) p n q (size w h) g a b))
+
+module _ (k : Memory) (p n : ℕ) (clears : SurfaceId → Bool) (b b′ : GdiState) (each : (u : SurfaceId) → Blanked k p n (clears u) (whereIs b u) (whereIs b′ u)) where
+  -- unmarked pixels stay alike, and cleared surfaces are alike whatever was marked
+  pub blank-alike : (a : GdiState) (m : Marks) (ms ns : Memories) → p + n ≤ length (memoryOf ms k) → p + n ≤ length (memoryOf ns k) → Alike b m ms ns
+      → Alike b′ (markedBy (blank k p n clears) m) (paintedBy a (blank k p n clears) ms) (paintedBy a (blank k p n clears) ns)
+  unfolding markedBy paintedBy
+  blank-alike a m ms ns f g like u x y i none = by (each u) (like u x y) i none
+    where
+      by : {t : Bool} {then now : Place} → Blanked k p n t then now → (inside then x y ≡ true → (m u x y → ⊥) → colourAt ms then x y ≡ colourAt ns then x y)
+          → inside now x y ≡ true → (cond t ⊥ (m u x y) → ⊥) → colourAt (blacked ms k p n) now x y ≡ colourAt (blacked ns k p n) now x y
+      by (new {now = now} c) like i none = ap (λ (l : List ℕ). word l (x + y * widthOf now)) (among-alike p n c ms ns f g)
+      by (old {then = then} e c) like i none =
+          subst (λ (at : Place). inside at x y ≡ true → colourAt (blacked ms k p n) at x y ≡ colourAt (blacked ns k p n) at x y) (sym e)
+          (λ j. ap (λ (l : List ℕ). word l (x + y * widthOf then)) (off-pixels ms p n c f) ∙ like j none ∙ sym (ap (λ (l : List ℕ). word l (x + y * widthOf then)) (off-pixels ns p n c g))) i
+
+module _ (a : GdiState) (p n : ℕ) (clears : SurfaceId → Bool) (ms : Memories) where
+  pub blank-panel : (k : Memory) → p + n ≤ length (memoryOf ms k) → length (paintedBy a (blank k p n clears) ms .panel) ≡ length (ms .panel)
+  unfolding paintedBy
+  blank-panel PanelMemory fits = length-with (ms .panel) (replicate n 0) p n (length-replicate n 0) fits
+  blank-panel Store fits = refl
+
+  pub blank-store : (k : Memory) → p + n ≤ length (memoryOf ms k) → length (paintedBy a (blank k p n clears) ms .store) ≡ length (ms .store)
+  unfolding paintedBy
+  blank-store PanelMemory fits = refl
+  blank-store Store fits = length-with (ms .store) (replicate n 0) p n (length-replicate n 0) fits
 
 -- with a slot behind the others: where these lie, and where its object does
 locate-old : (s : Slot) (l : List Slot) (p k : ℕ) → eqb (s .handle) k ≡ false → locate (l ++ (s ∷ [])) p k ≡ locate l p k
@@ -106,89 +192,37 @@ ends : (b : GdiState) → isSound b ≡ true → (u : SurfaceId) → Within (b .
 ends b sound Panel = places (cut b) (cut-sound b sound) Panel
 ends b sound (Bitmap h) = places (cut b) (cut-sound b sound) (Bitmap h)
 
--- the memories with n bytes of the store from p on at 0
-abbrev blacked : Memories → (p n : ℕ) → Memories
-blacked ms p n = memories (ms .panel) (blanked (ms .store) p n)
+-- a place that ends before the blanked bytes
+ends-off : (a p n : ℕ) (at : Place) → Within a p at → Off p n Store at
+ends-off a p n Nowhere i = no-bytes
+ends-off a p n (At PanelMemory q w h) i = on-panel
+ends-off a p n (At Store q w h) i = below (i .fits)
 
-old-pixels : (ms : Memories) (a p n : ℕ) (at : Place) → Within a p at → p + n ≤ length (ms .store) → pixelsAt (blacked ms p n) at ≡ pixelsAt ms at
-old-pixels ms a p n Nowhere i fits = refl
-old-pixels ms a p n (At PanelMemory q w h) i fits = refl
-old-pixels ms a p n (At Store q w h) i fits =
-    part-other (ms .store) (replicate n 0) p n (length-replicate n 0) fits q (size w h) (λ j a b c d. omega (arith, i .fits))
+-- a new object's bytes
+frame-among : (o : GdiObject) (p : ℕ) → Among p (bytesOf o) Store (frameOf o p)
+frame-among (DcOf d) p = no-place
+frame-among (BitmapOf m) p = within {q = p} {w = m .width} {h = m .height} (omega arith) (omega arith)
+frame-among (Brush x) p = no-place
+frame-among (Pen x) p = no-place
+frame-among (Font x) p = no-place
 
-new-colour : (o : GdiObject) (ms ns : Memories) (p x y : ℕ) → p + bytesOf o ≤ length (ms .store) → p + bytesOf o ≤ length (ns .store) → inside (frameOf o p) x y ≡ true
-    → colourAt (blacked ms p (bytesOf o)) (frameOf o p) x y ≡ colourAt (blacked ns p (bytesOf o)) (frameOf o p) x y
-new-colour (DcOf d) ms ns p x y f g i = clash i
-new-colour (BitmapOf m) ms ns p x y f g i =
-    let n = size (m .width) (m .height) in
-    rw (part-same (ms .store) (replicate n 0) p n (length-replicate n 0) f, part-same (ns .store) (replicate n 0) p n (length-replicate n 0) g)
-new-colour (Brush d) ms ns p x y f g i = clash i
-new-colour (Pen d) ms ns p x y f g i = clash i
-new-colour (Font d) ms ns p x y f g i = clash i
+-- a new object behind the others
+pub new-blanked : (b : GdiState) (o : GdiObject) → isSound b ≡ true → (u : SurfaceId) → Blanked Store (used b) (bytesOf o) (only (Bitmap (newHandle b)) u) (whereIs b u) (whereIs (added b o) u)
+new-blanked b o sound Panel = unfold added in old refl on-panel
+new-blanked b o sound (Bitmap h) =
+    subst (λ (now : Place). Blanked Store (used b) (bytesOf o) (eqb h (newHandle b)) (whereIs b (Bitmap h)) now) (sym (where-new b o sound h)) (by (eqb h (newHandle b)))
+  where
+    by : (t : Bool) → Blanked Store (used b) (bytesOf o) t (whereIs b (Bitmap h)) (cond t (frameOf o (used b)) (whereIs b (Bitmap h)))
+    by true = new (frame-among o (used b))
+    by false = old refl (ends-off (b .«panel_len») (used b) (bytesOf o) (whereIs b (Bitmap h)) (ends b sound (Bitmap h)))
 
-module _ (b : GdiState) (o : GdiObject) (sound : isSound b ≡ true) (m : Marks) (ms ns : Memories)
-    (fm : used b + bytesOf o ≤ length (ms .store)) (fn : used b + bytesOf o ≤ length (ns .store)) (like : Alike b m ms ns) where
-  old-colour : (u : SurfaceId) (x y : ℕ) → inside (whereIs b u) x y ≡ true → (m u x y → ⊥)
-      → colourAt (blacked ms (used b) (bytesOf o)) (whereIs b u) x y ≡ colourAt (blacked ns (used b) (bytesOf o)) (whereIs b u) x y
-  old-colour u x y i n =
-      ap (λ (l : List ℕ). word l (x + y * widthOf (whereIs b u))) (old-pixels ms (b .«panel_len») (used b) (bytesOf o) (whereIs b u) (ends b sound u) fm)
-      ∙ like u x y i n
-      ∙ sym (ap (λ (l : List ℕ). word l (x + y * widthOf (whereIs b u))) (old-pixels ns (b .«panel_len») (used b) (bytesOf o) (whereIs b u) (ends b sound u) fn))
-
-  -- the law: a new object keeps unmarked pixels alike, and its own are alike whatever was marked
-  pub blank-alike : Alike (added b o) (markedBy (blank (Bitmap (newHandle b)) (used b) (bytesOf o)) m)
-      (paintedBy b (blank (Bitmap (newHandle b)) (used b) (bytesOf o)) ms) (paintedBy b (blank (Bitmap (newHandle b)) (used b) (bytesOf o)) ns)
-  unfolding added markedBy paintedBy
-  blank-alike Panel x y i n = old-colour Panel x y i n
-  blank-alike (Bitmap h) x y i n =
-      subst (λ (at : Place). inside at x y ≡ true → colourAt (blacked ms (used b) (bytesOf o)) at x y ≡ colourAt (blacked ns (used b) (bytesOf o)) at x y)
-      (sym (where-new b o sound h)) (by (eqb h (newHandle b)) n) i
-    where
-      by : (t : Bool) → (cond t ⊥ (m (Bitmap h) x y) → ⊥) → inside (cond t (frameOf o (used b)) (whereIs b (Bitmap h))) x y ≡ true
-          → colourAt (blacked ms (used b) (bytesOf o)) (cond t (frameOf o (used b)) (whereIs b (Bitmap h))) x y
-          ≡ colourAt (blacked ns (used b) (bytesOf o)) (cond t (frameOf o (used b)) (whereIs b (Bitmap h))) x y
-      by true n i = new-colour o ms ns (used b) x y fm fn i
-      by false n i = old-colour (Bitmap h) x y i n
-
-module _ (b : GdiState) (h p n : ℕ) (ms : Memories) where
-  pub blank-panel : length (paintedBy b (blank (Bitmap h) p n) ms .panel) ≡ length (ms .panel)
-  unfolding paintedBy
-  blank-panel = refl
-
-  pub blank-store : p + n ≤ length (ms .store) → length (paintedBy b (blank (Bitmap h) p n) ms .store) ≡ length (ms .store)
-  unfolding paintedBy
-  blank-store fits = length-with (ms .store) (replicate n 0) p n (length-replicate n 0) fits
-
--- The panel at a new size is black, whatever was marked, and bitmaps stay; the record after it has its new sides.
-module _ (b b′ : GdiState) (w h : ℕ) (panel : whereIs b′ Panel ≡ At PanelMemory 0 w h) (bitmaps : (k : ℕ) → whereIs b′ (Bitmap k) ≡ whereIs b (Bitmap k)) where
-  abbrev sized : Memories → Memories
-  sized ms = memories (blanked (ms .panel) 0 (size w h)) (ms .store)
-
-  black-panel : (ms : Memories) → size w h ≤ length (ms .panel) → pixelsAt (sized ms) (At PanelMemory 0 w h) ≡ replicate (size w h) 0
-  black-panel ms f = part-same (ms .panel) (replicate (size w h) 0) 0 (size w h) (length-replicate (size w h) 0) (omega (arith, f))
-
-  in-store : (ms : Memories) {at : Place} → From 0 at → pixelsAt (sized ms) at ≡ pixelsAt ms at
-  in-store ms nothing = refl
-  in-store ms (some le) = refl
-
-  pub sized-alike : (m : Marks) (ms ns : Memories) → size w h ≤ length (ms .panel) → size w h ≤ length (ns .panel) → Alike b m ms ns
-      → Alike b′ (markedBy (blank Panel 0 (size w h)) m) (paintedBy b (blank Panel 0 (size w h)) ms) (paintedBy b (blank Panel 0 (size w h)) ns)
-  unfolding markedBy paintedBy
-  sized-alike m ms ns f g like Panel x y i n =
-      subst (λ (at : Place). colourAt (sized ms) at x y ≡ colourAt (sized ns) at x y) (sym panel)
-      (ap (λ (l : List ℕ). word l (x + y * w)) (black-panel ms f ∙ sym (black-panel ns g)))
-  sized-alike m ms ns f g like (Bitmap k) x y i n =
-      subst (λ (at : Place). inside at x y ≡ true → colourAt (sized ms) at x y ≡ colourAt (sized ns) at x y)
-      (sym (bitmaps k)) (λ j.
-      ap (λ (l : List ℕ). word l (x + y * widthOf (whereIs b (Bitmap k)))) (in-store ms (bitmap-from b k))
-      ∙ like (Bitmap k) x y j n
-      ∙ sym (ap (λ (l : List ℕ). word l (x + y * widthOf (whereIs b (Bitmap k)))) (in-store ns (bitmap-from b k)))) i
-
-module _ (b : GdiState) (n : ℕ) (ms : Memories) where
-  pub sized-panel : n ≤ length (ms .panel) → length (paintedBy b (blank Panel 0 n) ms .panel) ≡ length (ms .panel)
-  unfolding paintedBy
-  sized-panel fits = length-with (ms .panel) (replicate n 0) 0 n (length-replicate n 0) (omega (arith, fits))
-
-  pub sized-store : length (paintedBy b (blank Panel 0 n) ms .store) ≡ length (ms .store)
-  unfolding paintedBy
-  sized-store = refl
+-- the panel at a new size
+pub sized-blanked : (b b′ : GdiState) (w h : ℕ) → whereIs b′ Panel ≡ At PanelMemory 0 w h → ((k : ℕ) → whereIs b′ (Bitmap k) ≡ whereIs b (Bitmap k))
+    → (u : SurfaceId) → Blanked PanelMemory 0 (size w h) (only Panel u) (whereIs b u) (whereIs b′ u)
+sized-blanked b b′ w h panel bitmaps Panel =
+    subst (λ (now : Place). Blanked PanelMemory 0 (size w h) true (whereIs b Panel) now) (sym panel) (new (within {q = 0} {w = w} {h = h} (omega arith) (omega arith)))
+sized-blanked b b′ w h panel bitmaps (Bitmap k) = old (bitmaps k) (by (bitmap-from b k))
+  where
+    by : {at : Place} → From 0 at → Off 0 (size w h) PanelMemory at
+    by nothing = no-bytes
+    by (some le) = in-store

@@ -1,3 +1,4 @@
+pub mod After
 pub mod Alike
 pub mod Draws
 pub mod Blanks

@@ -10,10 +10,10 @@ use Rattle.gdi.specs.Record.{bytesOf}
 use Rattle.gdi.specs.Lookup.{objectAt}
 use Rattle.sound.specs.Sound.{startOf, used}
 use Rattle.memory.specs.Gap.{closedUp, blanked}
+use Rattle.place.specs.declared.Memory.{Memory}
 use Rattle.place.specs.declared.SurfaceId.{SurfaceId}
-use Rattle.place.specs.declared.SurfaceId.the-variants.{Panel, Bitmap}
-use Rattle.place.specs.Place.{whereIs}
-use Rattle.paint.specs.Memories.{Memories, memories, widthOf, over, colourAt}
+use Rattle.place.specs.Place.{same, whereIs}
+use Rattle.paint.specs.Memories.{Memories, memories, memoryOf, withMemory, widthOf, over, colourAt}
 
 -- the source operand of a drawing: 0, or for the pixel at x, y the pixel of a surface at fx x, fy y
 pub data Source : Type 0 where
@@ -31,11 +31,16 @@ pub record Draw : Type 0 where
 
 pub data Paint : Type 0 where
   draw : Draw → Paint
-  -- a new bitmap, or the panel at its new size: the n bytes of its memory from p on become 0
-  blank : SurfaceId → (p n : ℕ) → Paint
+  -- the n bytes of the memory from p on become 0; the surfaces that clears holds of lie there from now on, black: a new bitmap,
+  -- the panel at its new size
+  blank : Memory → (p n : ℕ) → (clears : SurfaceId → Bool) → Paint
   -- the bitmap h goes: the n bytes of the store from p on; those behind them, up to used, move down, and the freed tail
   -- becomes 0
   close : (h p n used : ℕ) → Paint
+
+-- the surface u alone
+abbrev pub only : SurfaceId → SurfaceId → Bool
+only u s = same s u
 
 abbrev pub operand : GdiState → Memories → Source → (x y : ℕ) → ℕ
 operand b ms black x y = 0
@@ -48,8 +53,7 @@ drawn d s w m = painted (wordsOf w (d .region)) (λ i. applied (d .table) (d .pa
 -- the memories after a paint
 unfoldable pub paintedBy : GdiState → Paint → Memories → Memories
 paintedBy b (draw d) ms = over (whereIs b (d .target)) (drawn d (operand b ms (d .source)) (widthOf (whereIs b (d .target)))) ms
-paintedBy b (blank Panel p n) ms = memories (blanked (ms .panel) p n) (ms .store)
-paintedBy b (blank (Bitmap h) p n) ms = memories (ms .panel) (blanked (ms .store) p n)
+paintedBy b (blank m p n clears) ms = withMemory ms m (blanked (memoryOf ms m) p n)
 paintedBy b (close h p n used) ms = memories (ms .panel) (closedUp 0 (ms .store) p n used)
 
 -- after several, one after the other

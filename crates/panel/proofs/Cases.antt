@@ -23,12 +23,13 @@ use Rattle.sound.proofs.Sound.{parts}
 use Rattle.sound.proofs.Bytes.{area as sides-area}
 use Rattle.memory.specs.Gap.{blanked}
 use Rattle.place.specs.declared.SurfaceId.the-variants.{Panel}
-use Rattle.dirty.specs.Dirty.{dirtied}
+use Rattle.dirty.specs.Dirty.{dirtied, dirtiedIf}
 use Rattle.plan.specs.declared.Answer.{Answer}
 use Rattle.plan.specs.declared.Answer.the-variants.{Refused, Drawn}
 use Rattle.paint.specs.Memories.{memories}
 use Rattle.paint.specs.Paint.{paintedBy, after}
 use Rattle.plan.specs.Plan.{Plan, told, refuse}
+use Rattle.plan.specs.Stroke.{dirtiedBy, paintsOf}
 use Rattle.plan.specs.Panel.{panelFill, withSides, resized, resize}
 use Rattle.plan.specs.Calls.{DoneOnPanel}
 
@@ -59,7 +60,7 @@ whole-panel m n c fits small =
 pub filled : (b : GdiState) (panel : List ℕ) (c : ℕ) → isSound b ≡ true → length panel ≡ b .«panel_len» → c < 65536
     → {a : GdiState} → a ≡ dirtied b Panel → {l : List ℕ} → l ≡ painted (between 0 (0 + b .width * b .height)) (λ _. c) panel
     → DoneOnPanel (panelFill b c) b panel (record { state = a; answer = Drawn }) l
-unfolding after paintedBy
+unfolding after paintedBy dirtiedBy paintsOf dirtiedIf
 filled b panel c sound len small marked bytes =
     let fits : 2 * (b .width * b .height) ≤ length panel = omega (arith, panel-fits b sound len) in
     record {

@@ -1,6 +1,6 @@
 -- The table keeps its 256 slots, and those past the count stay vacant, by every call. Assumes nothing.
 use mathlib.Core.Bool.{Bool, true, false, cond, _||_}
-use mathlib.Core.List.{List, _∷_}
+use mathlib.Core.List.{List, [], _∷_}
 use mathlib.Core.Path.{_≡_, refl, _∙_, ap}
 use Prim.Native.Nat.{ℕ, suc, _+_, _-_, _≤_, _<_}
 use native.Mathlib.Decide.{decLt}
@@ -38,6 +38,7 @@ use Rattle.plan.specs.declared.Call.the-variants.{CreateMemoryDc, Create
 use Rattle.plan.specs.declared.Answer.{Answer}
 use Rattle.plan.specs.declared.Answer.the-variants.{Handle}
 use Rattle.plan.specs.Plan.{Plan, told, refuse}
+use Rattle.plan.specs.Stroke.{Stroke, dirtiedBy}
 use Rattle.plan.specs.Create.{made, newBitmap, createOf, createBitmap}
 use Rattle.plan.specs.Delete.{goneAt, goes}
 use Rattle.plan.specs.Select.{isOther, selectAt, selectInto}
@@ -150,6 +151,11 @@ unfolding dirtiedIf
 dirtied-if-vacant true s b v = dirtied-vacant b s v
 dirtied-if-vacant false s b v = v
 
+strokes-vacant : (ss : List Stroke) (b : GdiState) → Vacant b → Vacant (dirtiedBy b ss)
+unfolding dirtiedBy
+strokes-vacant [] b v = v
+strokes-vacant (s ∷ ss) b v = strokes-vacant ss _ (dirtied-if-vacant (s .due) (s .drawing .target) b v)
+
 module _ (b : GdiState) (sound : Sound b) (v : Vacant b) where
   abbrev After : Plan → Type 0
   After p = Vacant (p .outcome .state)
@@ -172,12 +178,12 @@ module _ (b : GdiState) (sound : Sound b) (v : Vacant b) where
   act-vacant (SetTextAlign dc t) us = setting-vacant b sound v _ _ dc
   act-vacant (SetBkColor dc c) us = setting-vacant b sound v _ _ dc
   act-vacant (SetBkMode dc t) us = setting-vacant b sound v _ _ dc
-  act-vacant (PatternFill dc a rop) us = pattern-fill-by After b none dc a rop (λ s d. dirtied-if-vacant _ s b v)
-  act-vacant (Rectangle dc a) us = rectangle-by After b none dc a (λ s d. dirtied-if-vacant _ s _ (dirtied-if-vacant _ s b v))
-  act-vacant (Text dc at) us = text-by After b none us dc at (λ s d. dirtied-if-vacant _ s b v)
-  act-vacant (PanelFill c) us = dirtied-vacant b Panel v
+  act-vacant (PatternFill dc a rop) us = pattern-fill-by After b none dc a rop (λ s d. strokes-vacant _ b v)
+  act-vacant (Rectangle dc a) us = rectangle-by After b none dc a (λ s d. strokes-vacant _ b v)
+  act-vacant (Text dc at) us = text-by After b none us dc at (λ s d. strokes-vacant _ b v)
+  act-vacant (PanelFill c) us = strokes-vacant _ b v
   act-vacant (Resize w h) us = resize-by After b none w h v (λ e f g. dirtied-vacant (withSides b w h) Panel (record { table = v .table; vacant = v .vacant }))
-  act-vacant (Blit dc a src from rop) us = blit-by After b none dc a src from rop (λ s d. dirtied-if-vacant _ s b v) (λ s d q. dirtied-if-vacant _ s b v)
+  act-vacant (Blit dc a src from rop) us = blit-by After b none dc a src from rop (λ s d. strokes-vacant _ b v) (λ s d q. strokes-vacant _ b v)
 
 pub stays-vacant : StaysVacant
 unfolding plan

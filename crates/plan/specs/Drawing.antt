@@ -21,18 +21,13 @@ use Rattle.place.specs.declared.SurfaceId.{SurfaceId}
 use Rattle.place.specs.declared.Target.{Target}
 use Rattle.place.specs.declared.Target.the-variants.{NoDc, NoSurface, On}
 use Rattle.place.specs.Place.{whereIs, targetOf}
-use Rattle.dirty.specs.Dirty.{dirtiedIf}
 use Rattle.plan.specs.declared.Area.{Area}
 use Rattle.plan.specs.declared.Point.{Point}
-use Rattle.plan.specs.declared.Answer.{Answer}
 use Rattle.plan.specs.declared.Answer.the-variants.{Drawn, Advance}
 use Rattle.paint.specs.Memories.{widthOf, heightOf}
-use Rattle.paint.specs.Paint.{black, taken, Draw, Paint, draw}
+use Rattle.paint.specs.Paint.{black, taken, Draw}
 use Rattle.plan.specs.Plan.{Plan, refuse}
-
--- an accepted drawing: the record with its marks, the answer, and the drawings in their order
-abbrev pub drew : GdiState → Answer → List Paint → Plan
-drew b a ps = record { outcome = record { state = b; answer = a }; paint = ps }
+use Rattle.plan.specs.Stroke.{Stroke, drawnBy}
 
 -- 1 no such DC, then 2 the DC has no surface
 abbrev pub onTarget : GdiState → Target → (SurfaceId → Dc → Plan) → Plan
@@ -80,27 +75,33 @@ outlinedAt at a = marksAt at (λ width height. outlineMarks (a .w) (a .h))
 abbrev pub writtenAt : Place → (n : ℕ) → Bool
 writtenAt at n = marksAt at (λ width height. ltb 0 n)
 
+-- the strokes on the surface s: a fill under a table; an outline and a text, each in one colour
+abbrev pub fillStroke : GdiState → SurfaceId → Area → (table pattern : ℕ) → Stroke
+fillStroke b s a t c = record { drawing = patterned s (boxOf a) t c; due = filledAt (whereIs b s) a }
+
+abbrev pub outlineStroke : GdiState → SurfaceId → Area → (color : ℕ) → Stroke
+outlineStroke b s a c = record { drawing = solid s (rimOf a) c; due = outlinedAt (whereIs b s) a }
+
+abbrev pub textStroke : GdiState → SurfaceId → (units : List ℕ) → (n : ℕ) → Point → (color : ℕ) → Stroke
+textStroke b s units n at c = record { drawing = solid s (textInk units n (at .x) (at .y)) c; due = writtenAt (whereIs b s) n }
+
 -- pattern fill: the pattern is the packed brush colour
 abbrev pub patternFillOn : GdiState → Area → (table : ℕ) → SurfaceId → Dc → Plan
-patternFillOn b a t s d =
-    drew (dirtiedIf (filledAt (whereIs b s) a) s b) Drawn (draw (patterned s (boxOf a) t (packedOf (d .«brush_color»))) ∷ [])
+patternFillOn b a t s d = drawnBy b (fillStroke b s a t (packedOf (d .«brush_color»)) ∷ []) Drawn
 
 unfoldable pub patternFill : GdiState → (dc : ℕ) → Area → (rop : ℕ) → Plan
 patternFill b dc a rop = onTarget b (targetOf b dc) (patternFillOn b a (tableOf rop))
 
 -- rectangle: fill with brush, then outline with pen, each with its own mark
 abbrev pub rectangleOn : GdiState → Area → SurfaceId → Dc → Plan
-rectangleOn b a s d =
-    drew (dirtiedIf (outlinedAt (whereIs b s) a) s (dirtiedIf (filledAt (whereIs b s) a) s b)) Drawn
-    (draw (solid s (boxOf a) (packedOf (d .«brush_color»))) ∷ draw (solid s (rimOf a) (packedOf (d .«pen_color»))) ∷ [])
+rectangleOn b a s d = drawnBy b (fillStroke b s a 0xF0 (packedOf (d .«brush_color»)) ∷ outlineStroke b s a (packedOf (d .«pen_color»)) ∷ []) Drawn
 
 unfoldable pub rectangle : GdiState → (dc : ℕ) → Area → Plan
 rectangle b dc a = onTarget b (targetOf b dc) (rectangleOn b a)
 
 -- text: text colour, ink only; one mark if there was a unit; answers 6 times the units before unit 0 or the end
 abbrev pub textOn : GdiState → (units : List ℕ) → (n : ℕ) → Point → SurfaceId → Dc → Plan
-textOn b units n at s d =
-    drew (dirtiedIf (writtenAt (whereIs b s) n) s b) (Advance (6 * n)) (draw (solid s (textInk units n (at .x) (at .y)) (packedOf (d .«text_color»))) ∷ [])
+textOn b units n at s d = drawnBy b (textStroke b s units n at (packedOf (d .«text_color»)) ∷ []) (Advance (6 * n))
 
 -- last 10, over 65,535 units
 unfoldable pub text : GdiState → (units : List ℕ) → (dc : ℕ) → Point → Plan
@@ -112,22 +113,28 @@ abbrev pub blittedAt : (at from : Place) → Area → Point → Bool
 blittedAt at from a p =
     marksAt at (λ width height. marksAt from (λ src-w src-h. marks (blitOf width height (a .x) (a .y) (p .x) (p .y) (a .w) (a .h) src-w src-h)))
 
+-- the region of a blit: the pixels of the area whose source pixel is inside the source, which lies at from
+abbrev pub blitBox : (from : Place) → Area → Point → (x y : ℕ) → Bool
+blitBox from a p = drawnAt (a .x) (a .y) (p .x) (p .y) (a .w) (a .h) (widthOf from) (heightOf from)
+
+-- the column and the row of the source pixel that is taken for a pixel
+abbrev pub columnFor : Area → Point → ℕ → ℕ
+columnFor a p x = positive (sourceAt (a .x) (p .x) x)
+
+abbrev pub rowFor : Area → Point → ℕ → ℕ
+rowFor a p y = positive (sourceAt (a .y) (p .y) y)
+
 -- the pixels of the clipped box, each from the pixel that is taken for it; the source lies at from
 abbrev pub blitted : (target source : SurfaceId) → (from : Place) → Area → Point → (table pattern : ℕ) → Draw
-blitted s q from a p t c =
-    record {
-      target = s;
-      region = drawnAt (a .x) (a .y) (p .x) (p .y) (a .w) (a .h) (widthOf from) (heightOf from);
-      table = t;
-      pattern = c;
-      source = taken q (λ x. positive (sourceAt (a .x) (p .x) x)) (λ y. positive (sourceAt (a .y) (p .y) y));
-    }
+blitted s q from a p t c = record { target = s; region = blitBox from a p; table = t; pattern = c; source = taken q (columnFor a p) (rowFor a p) }
+
+-- its stroke
+abbrev pub blitStroke : GdiState → (target source : SurfaceId) → Area → Point → (table pattern : ℕ) → Stroke
+blitStroke b s q a p t c = record { drawing = blitted s q (whereIs b q) a p t c; due = blittedAt (whereIs b s) (whereIs b q) a p }
 
 -- blit: the pattern is the target DC's packed brush colour
 abbrev pub blitOn : GdiState → Area → Point → (table : ℕ) → SurfaceId → Dc → SurfaceId → Plan
-blitOn b a p t s d q =
-    drew (dirtiedIf (blittedAt (whereIs b s) (whereIs b q) a p) s b) Drawn
-    (draw (blitted s q (whereIs b q) a p t (packedOf (d .«brush_color»))) ∷ [])
+blitOn b a p t s d q = drawnBy b (blitStroke b s q a p t (packedOf (d .«brush_color»)) ∷ []) Drawn
 
 -- a code that ignores S is a pattern fill and the source handle is not looked at
 unfoldable pub blit : GdiState → (dc : ℕ) → Area → (src : ℕ) → Point → (rop : ℕ) → Plan

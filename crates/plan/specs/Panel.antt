@@ -1,20 +1,25 @@
 -- Panel fill and resize.
-use mathlib.Core.Bool.{true, cond, _&&_, _||_}
-use mathlib.Core.List.{[], _∷_}
+use mathlib.Core.Bool.{Bool, true, cond, _&&_, _||_}
+use mathlib.Core.List.{List, [], _∷_}
 use Prim.Native.Nat.{ℕ}
 use lib.Dec.{eqb, ltb}
 use Rattle.gdi.specs.declared.GdiState.{GdiState}
 use Rattle.gdi.specs.Record.{size}
+use Rattle.place.specs.declared.Memory.the-variants.{Panel as PanelMemory}
 use Rattle.place.specs.declared.SurfaceId.the-variants.{Panel}
 use Rattle.dirty.specs.Dirty.{dirtied}
 use Rattle.plan.specs.declared.Answer.the-variants.{Drawn}
-use Rattle.paint.specs.Paint.{draw, blank}
+use Rattle.paint.specs.Paint.{Paint, blank, only}
 use Rattle.plan.specs.Plan.{Plan, told, refuse}
-use Rattle.plan.specs.Drawing.{drew, solid}
+use Rattle.plan.specs.Stroke.{Stroke, drawnBy}
+use Rattle.plan.specs.Drawing.{solid}
 
 -- the whole panel in one colour, and one mark
+abbrev pub panelFillStroke : (color : ℕ) → Stroke
+panelFillStroke c = record { drawing = solid Panel (λ x y. true) c; due = true }
+
 abbrev pub panelFill : GdiState → (color : ℕ) → Plan
-panelFill b c = drew (dirtied b Panel) Drawn (draw (solid Panel (λ x y. true) c) ∷ [])
+panelFill b c = drawnBy b (panelFillStroke c ∷ []) Drawn
 
 -- the record with other panel sides
 abbrev pub withSides : GdiState → (width height : ℕ) → GdiState
@@ -32,14 +37,22 @@ withSides b w h =
       objects = b .objects;
     }
 
--- the panel at its new size turns black and marks once; bytes past it are kept
-abbrev pub resized : GdiState → (width height : ℕ) → Plan
-resized b w h = drew (dirtied (withSides b w h) Panel) Drawn (blank Panel 0 (size w h) ∷ [])
+-- the panel turns black and marks once; b is the record before the mark, and the paints make the panel black
+abbrev pub turnedBlack : GdiState → List Paint → Plan
+turnedBlack b ps = record { outcome = record { state = dirtied b Panel; answer = Drawn }; paint = ps }
 
--- a side of 0 or the present size does nothing; else 6 a side above 4,096, then 7 panel memory too short
+-- an effective resize: the panel at its new size turns black; bytes past it are kept
+abbrev pub resized : GdiState → (width height : ℕ) → Plan
+resized b w h = turnedBlack (withSides b w h) (blank PanelMemory 0 (size w h) (only Panel) ∷ [])
+
+-- a resize with a side of 0 or the present size
+abbrev pub noEffect : GdiState → (width height : ℕ) → Bool
+noEffect b w h = (eqb w 0 || eqb h 0) || (eqb w (b .width) && eqb h (b .height))
+
+-- does nothing; else 6 a side above 4,096, then 7 panel memory too short
 unfoldable pub resize : GdiState → (width height : ℕ) → Plan
 resize b w h =
-    cond ((eqb w 0 || eqb h 0) || (eqb w (b .width) && eqb h (b .height))) (told b Drawn) (
+    cond (noEffect b w h) (told b Drawn) (
     cond (ltb 4096 w || ltb 4096 h) (refuse 6 b) (
     cond (ltb (b .«panel_len») (size w h)) (refuse 7 b)
     (resized b w h)))

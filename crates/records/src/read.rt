@@ -19,7 +19,7 @@ use gdi::Slot;
 pub const MOST_LENT: usize = 65_536;
 
 // The bytes before a record's slots.
-const HEAD: usize = 47;
+const HEAD: usize = 48;
 
 // A record, the lengths of the memories lent with it, and the byte behind it; or a bad one.
 pub struct Case {
@@ -62,8 +62,11 @@ pub fn record(s: &[u8], at: usize) -> Case
     if n - at < HEAD {
         return bad(n);
     }
-    let given = bigendian::read_u16(s, at + 45) as usize;
+    let given = bigendian::read_u16(s, at + 46) as usize;
     if s[at + 36] > 1 {
+        return bad(n);
+    }
+    if s[at + 37] > 1 {
         return bad(n);
     }
     if given > MAX_OBJECTS {
@@ -118,7 +121,7 @@ fn with_lengths(s: &[u8], at: usize, state: GdiState) -> Case
 
 // A record without slots, of the numbers from `at` on.
 fn numbers(s: &[u8], at: usize) -> GdiState
-    requires { ⌜ at + 47 ≤ length (now s) ⌝ }
+    requires { ⌜ at + 48 ≤ length (now s) ⌝ }
 {
     let panel_len = read_u64(s, at) as usize;
     let store_len = read_u64(s, at + 8) as usize;
@@ -127,9 +130,19 @@ fn numbers(s: &[u8], at: usize) -> GdiState
     let mut state = gdi::fresh_state(panel_len, store_len, width, height);
     state.frame_counter = read_u64(s, at + 24);
     state.next_handle = bigendian::read_u32(s, at + 32);
-    state.stock_dirty = s[at + 36] == 1;
-    state.count = read_u64(s, at + 37) as usize;
-    state
+    with_flags(s, at, state)
+}
+
+// The record with the stock bitmap's mark, the screen DC's surface and the count of the numbers from `at` on.
+fn with_flags(s: &[u8], at: usize, state: GdiState) -> GdiState
+    requires { ⌜ at + 48 ≤ length (now s) ⌝ }
+{
+    let screen = gdi::dc_on(surface_of(s[at + 37]));
+    let mut flagged = state;
+    flagged.stock_dirty = s[at + 36] == 1;
+    flagged.screen = screen;
+    flagged.count = read_u64(s, at + 38) as usize;
+    flagged
 }
 
 // The number in the eight bytes from `at` on.

@@ -10,7 +10,7 @@ use borrow.Author.Tests.{leb-true, lt-ltb}
 use Rattle.bigendian.specs.BigEndian.{be32}
 use Rattle.plan.specs.declared.Call.{Call}
 use Rattle.script.specs.declared.CallRead.{CallRead}
-use Rattle.script.specs.declared.CallRead.the-variants.{End, Bad, Is}
+use Rattle.script.specs.declared.CallRead.the-variants.{End, Bad, Look, Is}
 use Rattle.script.specs.Script.{Behind, Read, callOf, callAt}
 use Rattle.replay.specs.Calls.{CallBytes}
 
@@ -18,6 +18,7 @@ use Rattle.replay.specs.Calls.{CallBytes}
 abbrev TextEnds : ℕ → CallRead → Type 0
 TextEnds at End = Unit
 TextEnds at Bad = Unit
+TextEnds at Look = Unit
 TextEnds at (Is c next) = (at + 17 ≤ next) × (next ≤ at + 140017)
 
 units-end :

@@ -91,7 +91,8 @@ fn write_panel(panel: &[u8], width: u32, height: u32) {
     picture::write(panel, width, height);
 }
 
-// Performs call after call, to the script's end or a bad one, and prints them if they are shown. The record after the last.
+// Performs call after call, to the script's end or a bad one, and prints them and what looks ask for if they are shown. The
+// record after the last call.
 fn perform_all(
     s: &[u8],
     first: GdiState,
@@ -103,16 +104,24 @@ fn perform_all(
     let mut units = [0u16; script::MAX_UNITS];
     let mut at = script::HEADER;
     while at < s.len() {
-        let CallRead::Is(call, next) = script::read_call(s, at) else {
-            show_bad_call(shown);
-            return bench;
-        };
-        let n = take_units(s, at, next, &mut units);
-        let outcome = perform::perform(bench, call, &units[0..n], panel, store);
-        let a = outcome.answer;
-        answer::show(s[at], a, shown);
-        bench = outcome.state;
-        at = next;
+        match script::read_call(s, at) {
+            CallRead::Look => {
+                state::show(bench, panel, store, shown);
+                at += 1;
+            }
+            CallRead::Is(call, next) => {
+                let n = take_units(s, at, next, &mut units);
+                let outcome = perform::perform(bench, call, &units[0..n], panel, store);
+                let a = outcome.answer;
+                answer::show(s[at], a, shown);
+                bench = outcome.state;
+                at = next;
+            }
+            _ => {
+                show_bad_call(shown);
+                return bench;
+            }
+        }
     }
     bench
 }

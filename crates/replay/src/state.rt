@@ -7,6 +7,13 @@ use gdi::MAX_OBJECTS;
 use gdi::Slot;
 use lines::Line;
 
+// Prints a record, and the CRCs of its memories, if they are shown.
+pub fn show(bench: GdiState, panel: &[u8], store: &[u8], shown: bool) {
+    if shown {
+        print(bench, panel, store);
+    }
+}
+
 // Prints a record, and the CRCs of its memories.
 pub fn print(bench: GdiState, panel: &[u8], store: &[u8]) {
     print_counters(bench);

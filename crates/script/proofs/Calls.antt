@@ -16,7 +16,7 @@ use Rattle.bigendian.specs.BigEndian.{be32}
 use Rattle.plan.specs.declared.Call.{Call}
 use Rattle.script.specs.declared.CallRead.{CallRead}
 use Rattle.script.specs.declared.CallRead.the-variants.{Bad}
-use Rattle.script.specs.Script.{sized, callOf, Behind}
+use Rattle.script.specs.Script.{sized, callOf, entryOf, Behind}
 
 pub either-bad : (b : Bool) → cond b Bad Bad ≡ Bad
 either-bad true = refl
@@ -114,5 +114,5 @@ module _ (s : List ℕ) (at : ℕ) where
       either (eqb k 17) (sized-ends 8 _) (
       either (eqb k 18) (sized-ends 36 _) (record { ends = tt }))))))))))))))))))
 
-  pub call-behind : (k : ℕ) → Behind s at (callOf k s (at + 1))
-  call-behind k = call-ends k .ends
+  pub entry-behind : (k : ℕ) → Behind s at (entryOf k s (at + 1))
+  entry-behind k = either (eqb k 0x7F) (record { ends = tt }) (call-ends k) .ends

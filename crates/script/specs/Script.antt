@@ -13,7 +13,7 @@ use Rattle.plan.specs.declared.Call.the-variants.{CreateMemoryDc, CreateCompati
 use Rattle.script.specs.declared.HeaderRead.{HeaderRead}
 use Rattle.script.specs.declared.HeaderRead.the-variants.{Bad as BadHeader, Is as IsHeader}
 use Rattle.script.specs.declared.CallRead.{CallRead}
-use Rattle.script.specs.declared.CallRead.the-variants.{End, Bad, Is}
+use Rattle.script.specs.declared.CallRead.the-variants.{End, Bad, Look, Is}
 
 -- 21 bytes: `GDI1`, panel memory length, store length, panel width, panel height, fill byte
 unfoldable pub headerOf : List ℕ → HeaderRead
@@ -63,14 +63,19 @@ callOf k s p =
     cond (eqb k 18) (sized s p 36 (Blit (be32 s p) (areaAt s (p + 4)) (be32 s (p + 20)) (pointAt s (p + 24)) (be32 s (p + 32))))
     Bad)))))))))))))))))
 
--- what stands at a byte of the script: its end, or a call
+-- the byte 7F is a look, which has no arguments and is no call on the bench
+abbrev pub entryOf : (k : ℕ) → List ℕ → (p : ℕ) → CallRead
+entryOf k s p = cond (eqb k 0x7F) Look (callOf k s p)
+
+-- what stands at a byte of the script: its end, a look or a call
 unfoldable pub callAt : List ℕ → ℕ → CallRead
-callAt s at = cond (ltb at (length s)) (callOf (getD s at 0) s (at + 1)) End
+callAt s at = cond (ltb at (length s)) (entryOf (getD s at 0) s (at + 1)) End
 
 -- a call that was read ends behind its start and within the script
 abbrev pub Behind : List ℕ → ℕ → CallRead → Type 0
 Behind s at End = Unit
 Behind s at Bad = Unit
+Behind s at Look = Unit
 Behind s at (Is c next) = (at < next) × (next ≤ length s)
 
 pub record Read (s : List ℕ) (at : ℕ) (r : CallRead) : Type 0 where

@@ -3,7 +3,7 @@ ghost use mathlib.Core.List.{_++_};
 ghost use mathlib.Core.Path.{_≡_};
 ghost use Prim.Native.Nat.{_≤_, _<_, _+_, _*_};
 ghost use lib.ListN.{length, drop};
-ghost use Rattle.script.specs.Script.{headerOf, pointAt, areaAt, unitsIn, callOf, Read};
+ghost use Rattle.script.specs.Script.{headerOf, pointAt, areaAt, unitsIn, callOf, entryOf, Read};
 use color::Colorref;
 use color::Rgb565;
 use plan::Area;
@@ -32,10 +32,14 @@ pub enum HeaderRead {
     Is(Header),
 }
 
-// What stands at a byte of a script: its end, no call, or a call with the byte behind it.
+// The byte that asks for the state lines. It has no arguments.
+pub const LOOK: u8 = 0x7F;
+
+// What stands at a byte of a script: its end, neither a call nor a look, a look, or a call with the byte behind it.
 pub enum CallRead {
     End,
     Bad,
+    Look,
     Is(Call, usize),
 }
 
@@ -338,13 +342,24 @@ fn read_arguments(s: &[u8], k: u8, p: usize) -> CallRead
     CallRead::Bad
 }
 
+// The look or call of byte k, whose arguments start at p.
+fn read_entry(s: &[u8], k: u8, p: usize) -> CallRead
+    requires { ⌜ p ≤ length (now s) ⌝ }
+    ensures { λ r. ⌜ r ≡ entryOf k (now (s .entry)) p ⌝ }
+{
+    if k == LOOK {
+        return CallRead::Look;
+    }
+    read_arguments(s, k, p)
+}
+
 // What stands at a byte of a script.
 pub fn read_call(s: &[u8], at: usize) -> CallRead
     requires { ⌜ at ≤ length (now s) ⌝ }
     ensures { λ r. ⌜ Read (now (s .entry)) at r ⌝ }
 {
     if at < s.len() {
-        return read_arguments(s, s[at], at + 1);
+        return read_entry(s, s[at], at + 1);
     }
     CallRead::End
 }

@@ -14,6 +14,9 @@ pub fn path(of: &str) -> PathBuf {
     PathBuf::from(concat!(env!("CARGO_MANIFEST_DIR"), "/..")).join(of)
 }
 
+/// The byte of a look, which is no call on the bench.
+const LOOK: u8 = 0x7F;
+
 /// What each call takes, by its byte.
 const ARGUMENTS: [&[Field]; 18] = {
     use Field::*;
@@ -189,7 +192,13 @@ fn by_numbers(call: u32, reply: &Reply) -> Option<String> {
     })
 }
 
-/// The lines of what a bench has come to.
+/// The lines of what a bench has come to, in both forms.
+fn looked_at(bench: &Bench, record: &Record, panel: &[u8], store: &[u8]) -> Vec<String> {
+    assert!(panel == bench.panel() && store == bench.store(), "the memories differ");
+    state(record, panel, store)
+}
+
+/// The lines of what a record and its memories have come to.
 fn state(record: &Record, panel: &[u8], store: &[u8]) -> Vec<String> {
     let (width, height) = (record.width(), record.height());
     let (frames, next) = (record.frame_counter(), record.next_handle());
@@ -240,7 +249,12 @@ fn lines(script: &[u8]) -> (Vec<String>, usize) {
         }
     };
     let mut calls = 0;
-    while !rest.is_empty() {
+    while let Some((&first, behind)) = rest.split_first() {
+        if first == LOOK {
+            lines.extend(looked_at(&bench, &record, &panel, &store));
+            rest = behind;
+            continue;
+        }
         let line = read(&mut rest).and_then(|(host, units)| {
             let line = by_method(&mut bench, &host, &units);
             let reply = record.perform(&host, &units, &mut panel, &mut store);
@@ -255,8 +269,7 @@ fn lines(script: &[u8]) -> (Vec<String>, usize) {
         lines.push(line);
         calls += 1;
     }
-    assert!(*panel == *bench.panel() && *store == *bench.store(), "the memories differ");
-    lines.extend(state(&record, &panel, &store));
+    lines.extend(looked_at(&bench, &record, &panel, &store));
     (lines, calls)
 }
 

@@ -22,20 +22,23 @@ loop-holds c = (refl, (refl, sym (zeros 70000)))
 read-call-requires : tie.Need-read-call-requires Inv-loop μ-loop
 read-call-requires c κs = search needs
 
+enum-told : tie.Need-enum-told Inv-loop μ-loop
+enum-told c = search needs
+
+show-requires : tie.Need-show-requires Inv-loop μ-loop
+show-requires c κs = search needs
+
+add-at : tie.Need-add-at Inv-loop μ-loop
+add-at c = search needs
+
+loop-less : tie.Need-loop-less Inv-loop μ-loop
+loop-less c = omega (arith, c .before .before .before .before .before .before .loop-test .taken)
+
+loop-again : tie.Need-loop-again Inv-loop μ-loop
+loop-again c = c .before .before .before .before .before .before .before .loop .inv
+
 enum-known-call : tie.Need-enum-known-call Inv-loop μ-loop
 enum-known-call c = search needs
-
-show-bad-call-requires : tie.Need-show-bad-call-requires Inv-loop μ-loop
-show-bad-call-requires c κs = search needs
-
-same-length : tie.Need-same-length Inv-loop μ-loop
-same-length c = search needs
-
-same-length-2 : tie.Need-same-length-2 Inv-loop μ-loop
-same-length-2 c = search needs
-
-returns : tie.Need-returns Inv-loop μ-loop
-returns c = search needs
 
 slice-aggregate-take-units : tie.Need-slice-aggregate-take-units Inv-loop μ-loop
 slice-aggregate-take-units c = search needs
@@ -62,22 +65,34 @@ perform-requires c κs = search needs
 shared-slice-read-show : tie.Need-shared-slice-read-show Inv-loop μ-loop
 shared-slice-read-show c = search needs
 
-show-requires : tie.Need-show-requires Inv-loop μ-loop
-show-requires c κs = search needs
+show-requires-2 : tie.Need-show-requires-2 Inv-loop μ-loop
+show-requires-2 c κs = search needs
 
-loop-less : tie.Need-loop-less Inv-loop μ-loop
-loop-less c =
+loop-less-2 : tie.Need-loop-less-2 Inv-loop μ-loop
+loop-less-2 c =
     let told = c .before .before .before .before .before .before .before .before .before .before .before .before .before .before .before .before in
     omega (arith, ahead (told .before .before .read-call .ensures) (told .call .given .1), told .before .before .before .loop-test .taken)
 
-loop-again : tie.Need-loop-again Inv-loop μ-loop
-loop-again c =
+loop-again-2 : tie.Need-loop-again-2 Inv-loop μ-loop
+loop-again-2 c =
     let done = c .before .before .before .before .before .before .before in
     let taken = done .before .before .before .before .before .before in
     let held = taken .before .before .before .before .before .before .before .loop .inv in (
       done .perform .kept .1 .1 .1 .0 ∙ held .0,
       (done .perform .kept .1 .1 .1 .1 .0 ∙ held .1 .0, taken .take-units .kept .1 .1 .1 .0 ∙ held .1 .1),
     )
+
+show-bad-call-requires : tie.Need-show-bad-call-requires Inv-loop μ-loop
+show-bad-call-requires c κs = search needs
+
+same-length : tie.Need-same-length Inv-loop μ-loop
+same-length c = search needs
+
+same-length-2 : tie.Need-same-length-2 Inv-loop μ-loop
+same-length-2 c = search needs
+
+returns : tie.Need-returns Inv-loop μ-loop
+returns c = search needs
 
 same-length-3 : tie.Need-same-length-3 Inv-loop μ-loop
 same-length-3 c = search needs
@@ -96,11 +111,12 @@ perform-all-spec =
     μ-loop
     loop-holds
     read-call-requires
+    enum-told
+    show-requires
+    add-at
+    loop-less
+    loop-again
     enum-known-call
-    show-bad-call-requires
-    same-length
-    same-length-2
-    returns
     slice-aggregate-take-units
     take-units-requires
     sub-perform
@@ -108,9 +124,13 @@ perform-all-spec =
     part-perform-end
     perform-requires
     shared-slice-read-show
-    show-requires
-    loop-less
-    loop-again
+    show-requires-2
+    loop-less-2
+    loop-again-2
+    show-bad-call-requires
+    same-length
+    same-length-2
+    returns
     same-length-3
     same-length-4
     returns-2)

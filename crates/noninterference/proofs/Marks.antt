@@ -1,0 +1,246 @@
+-- The marks after each call are those that document 01 names, and no others. Assumes nothing.
+use mathlib.Core.Bool.{Bool, true, false, cond, _||_}
+use mathlib.Core.List.{List, []}
+use mathlib.Core.Logic.{_⊎_, inl, inr, Iff·rfl}
+use mathlib.Core.Path.{_≡_, refl, sym, _∙_, ap}
+use Prim.Native.Nat.{ℕ, _+_}
+use native.Mathlib.Omega.{arith}
+use lib.Dec.{eqb, leb, ltb}
+use borrow.Author.Tests.{eqb-false}
+use Rattle.rop3.specs.Rop3.{tableOf, usesSrc, usesDst}
+use Rattle.text.specs.Ink.{unitCount, textInk}
+use Rattle.gdi.specs.declared.GdiState.{GdiState}
+use Rattle.gdi.specs.declared.GdiObject.{GdiObject}
+use Rattle.gdi.specs.declared.Dc.{Dc}
+use Rattle.gdi.specs.declared.Found.the-variants.{At, Nothing}
+use Rattle.gdi.specs.Record.{size, bytesOf}
+use Rattle.gdi.specs.Stock.{isStock}
+use Rattle.gdi.specs.Lookup.{findOf}
+use Rattle.sound.specs.Sound.{used}
+use Rattle.ready.specs.Ready.{commonRefusal}
+use Rattle.place.specs.declared.SurfaceId.{SurfaceId}
+use Rattle.place.specs.declared.SurfaceId.the-variants.{Panel, Bitmap}
+use Rattle.place.specs.declared.Target.the-variants.{On}
+use Rattle.place.specs.Place.{whereIs, targetOf}
+use Rattle.place.proofs.Apart.{clash}
+use Rattle.handles.specs.Handles.{newHandle}
+use Rattle.paint.specs.Paint.{draw, closing}
+use Rattle.paint.specs.Marks.{Marks, markedBy, marked, Keeps, Exactly, Unmarks, everywhere}
+use Rattle.paint.proofs.After.{ruled, draw-exact, two-exact, blank-exact, close-exact}
+use Rattle.plan.specs.declared.Answer.{Answer}
+use Rattle.plan.specs.declared.Answer.the-variants.{Refused, Handle}
+use Rattle.plan.specs.declared.Area.{Area}
+use Rattle.plan.specs.declared.Point.{Point}
+use Rattle.plan.specs.declared.Call.{Call}
+use Rattle.plan.specs.declared.Call.the-variants.{Delete, Remove, PatternFill, Rectangle, Text, PanelFill, Resize, Blit}
+use Rattle.plan.specs.Plan.{Plan, told, refuse}
+use Rattle.plan.specs.Stroke.{paintsOf}
+use Rattle.plan.specs.Create.{made, createOf, newBitmap, createBitmap}
+use Rattle.plan.specs.Delete.{goneAt, goes}
+use Rattle.plan.specs.Drawing.{patterned, boxOf, rimOf, patternFillOn, patternFill, rectangleOn, rectangle, textOn, text, blitBox, columnFor, rowFor, blitted, blitOn, blit}
+use Rattle.plan.specs.Panel.{noEffect, resized, resize}
+use Rattle.plan.specs.Calls.{act, plan}
+use Rattle.plan.specs.Refusal.{numberOf}
+use Rattle.plan.proofs.Refusal.{refusals-keep}
+use Rattle.plan.proofs.Select.{select-unpainted, setting-unpainted}
+use Rattle.noninterference.specs.Claim.{marksAfter}
+use Rattle.noninterference.specs.Marks.{Creates, memory-dc, bitmap, brush, pen, font, Sets, selection, text-color, text-align, bk-color, bk-mode, byDestination, bySource, number, marksBy, ExactMarks}
+
+-- a drawing without a source, and one without a code
+plain-exact : (m : Marks) (s : SurfaceId) (region : (x y : ℕ) → Bool) (t c : ℕ) → Exactly m (markedBy (draw (patterned s region t c)) m) s region (λ x y. (usesDst t ≡ true) × m s x y)
+plain-exact m s region t c = ruled (draw-exact m (patterned s region t c)) (λ x y. (by x y, λ i. inl i))
+  where
+    by : (x y : ℕ) → ((usesDst t ≡ true) × m s x y) ⊎ ((usesSrc t ≡ true) × ⊥) → (usesDst t ≡ true) × m s x y
+    by x y (inl i) = i
+    by x y (inr i) = absurd (i .1)
+
+solid-exact : (m : Marks) (s : SurfaceId) (region : (x y : ℕ) → Bool) (c : ℕ) → Unmarks m (markedBy (draw (patterned s region 0xF0 c)) m) s region
+solid-exact m s region c = ruled (plain-exact m s region 0xF0 c) (λ x y. ((λ i. clash (i .0)), (λ i. absurd i)))
+
+module _ (b : GdiState) (n k : ℕ) (us : List ℕ) (m : Marks) where
+  -- an accepted call has its own plan
+  accepted-plan : (c : Call) → number b n k us c ≡ 0 → plan c us b n k ≡ act c us b
+  unfolding plan
+  accepted-plan c = by (eqb (commonRefusal b n k) 0) refl
+    where
+      by : (t : Bool) → eqb (commonRefusal b n k) 0 ≡ t → numberOf (cond t (act c us b) (refuse (commonRefusal b n k) b)) ≡ 0
+          → cond t (act c us b) (refuse (commonRefusal b n k) b) ≡ act c us b
+      by true f e = refl
+      by false f e = absurd (eqb-false _ _ f e)
+
+  -- by the paints of the call's plan
+  by-plan : (c : Call) {p : Plan} {s : SurfaceId} {r : (x y : ℕ) → Bool} {f : (x y : ℕ) → Type 0} → plan c us b n k ≡ p
+      → Exactly m (marked (p .paint) m) s r f → Exactly m (marksBy b n k us m c) s r f
+  unfolding marksAfter
+  by-plan c e x = rw e x
+
+  unpainted-plan : (c : Call) {p : Plan} → plan c us b n k ≡ p → p .paint ≡ [] → Keeps m (marksBy b n k us m c)
+  unfolding marksAfter marked
+  unpainted-plan c e z = rw (e, z) (record { keeps = λ u x y. Iff·rfl })
+
+  -- a call that paints nothing
+  unpainted : (c : Call) → act c us b .paint ≡ [] → Keeps m (marksBy b n k us m c)
+  unfolding plan
+  unpainted c z = by (eqb (commonRefusal b n k) 0) refl
+    where
+      by : (t : Bool) → eqb (commonRefusal b n k) 0 ≡ t → Keeps m (marksBy b n k us m c)
+      by true f = unpainted-plan c {p = act c us b} (rw f) z
+      by false f = unpainted-plan c {p = refuse (commonRefusal b n k) b} (rw f) refl
+
+  module _ (dc : ℕ) (a : Area) (s : SurfaceId) (d : Dc) (e : targetOf b dc ≡ On s d) where
+    fill-plan : (rop : ℕ) → patternFill b dc a rop ≡ patternFillOn b a (tableOf rop) s d
+    unfolding patternFill
+    fill-plan rop = rw e
+
+    fill-marks : (rop : ℕ) → number b n k us (PatternFill dc a rop) ≡ 0
+        → Exactly m (marksBy b n k us m (PatternFill dc a rop)) s (boxOf a) (byDestination m rop s)
+    unfolding act paintsOf marked
+    fill-marks rop z = by-plan (PatternFill dc a rop) (accepted-plan (PatternFill dc a rop) z ∙ fill-plan rop) (plain-exact m s (boxOf a) (tableOf rop) _)
+
+    rectangle-marks : number b n k us (Rectangle dc a) ≡ 0 → Unmarks m (marksBy b n k us m (Rectangle dc a)) s (λ x y. boxOf a x y || rimOf a x y)
+    unfolding act paintsOf marked
+    rectangle-marks z = by-plan (Rectangle dc a) (accepted-plan (Rectangle dc a) z ∙ is) (two-exact (solid-exact m s (boxOf a) _) (solid-exact _ s (rimOf a) _))
+      where
+        is : rectangle b dc a ≡ rectangleOn b a s d
+        is = unfold rectangle in rw e
+
+    module _ (src : ℕ) (p : Point) (rop : ℕ) (z : number b n k us (Blit dc a src p rop) ≡ 0) where
+      ignoring-marks : usesSrc (tableOf rop) ≡ false → Exactly m (marksBy b n k us m (Blit dc a src p rop)) s (boxOf a) (byDestination m rop s)
+      unfolding act paintsOf marked
+      ignoring-marks f = by-plan (Blit dc a src p rop) (accepted-plan (Blit dc a src p rop) z ∙ is ∙ fill-plan rop) (plain-exact m s (boxOf a) (tableOf rop) _)
+        where
+          is : blit b dc a src p rop ≡ patternFill b dc a rop
+          is = unfold blit in rw f
+
+      blit-marks : (q : SurfaceId) (o : Dc) → usesSrc (tableOf rop) ≡ true → targetOf b src ≡ On q o
+          → Exactly m (marksBy b n k us m (Blit dc a src p rop)) s (blitBox (whereIs b q) a p) (λ x y. byDestination m rop s x y ⊎ bySource m rop q a p x y)
+      unfolding act paintsOf marked
+      blit-marks q o f g =
+          by-plan (Blit dc a src p rop) (accepted-plan (Blit dc a src p rop) z ∙ is)
+          (draw-exact m (blitted s q (whereIs b q) a p (tableOf rop) _))
+        where
+          is : blit b dc a src p rop ≡ blitOn b a p (tableOf rop) s d q
+          is = unfold blit in rw (f, e, g)
+
+  text-marks : (dc : ℕ) (at : Point) (s : SurfaceId) (d : Dc) → number b n k us (Text dc at) ≡ 0 → targetOf b dc ≡ On s d
+      → Unmarks m (marksBy b n k us m (Text dc at)) s (textInk us (unitCount us) (at .x) (at .y))
+  unfolding act paintsOf marked
+  text-marks dc at s d z e = by-plan (Text dc at) (accepted-plan (Text dc at) z ∙ is) (solid-exact m s _ _)
+    where
+      by : (t : Bool) → numberOf (cond t (textOn b us (unitCount us) at s d) (refuse 10 b)) ≡ 0 → cond t (textOn b us (unitCount us) at s d) (refuse 10 b) ≡ textOn b us (unitCount us) at s d
+      by true z = refl
+      by false z = absurd (omega arith)
+
+      shown : text b us dc at ≡ cond (leb (unitCount us) 65535) (textOn b us (unitCount us) at s d) (refuse 10 b)
+      shown = unfold text in rw e
+
+      is : text b us dc at ≡ textOn b us (unitCount us) at s d
+      is = shown ∙ by (leb (unitCount us) 65535) (ap numberOf (sym (accepted-plan (Text dc at) z ∙ shown)) ∙ z)
+
+  resize-marks : (w h : ℕ) → number b n k us (Resize w h) ≡ 0 → noEffect b w h ≡ false → Unmarks m (marksBy b n k us m (Resize w h)) Panel everywhere
+  unfolding act marked
+  resize-marks w h z e = by-plan (Resize w h) (accepted-plan (Resize w h) z ∙ is) (blank-exact m _ _ _ Panel)
+    where
+      by : (t u : Bool) → numberOf (cond t (refuse 6 b) (cond u (refuse 7 b) (resized b w h))) ≡ 0 → cond t (refuse 6 b) (cond u (refuse 7 b) (resized b w h)) ≡ resized b w h
+      by true u z = absurd (omega arith)
+      by false true z = absurd (omega arith)
+      by false false z = refl
+
+      shown : resize b w h ≡ cond (ltb 4096 w || ltb 4096 h) (refuse 6 b) (cond (ltb (b .«panel_len») (size w h)) (refuse 7 b) (resized b w h))
+      shown = unfold resize in rw e
+
+      is : resize b w h ≡ resized b w h
+      is = shown ∙ by (ltb 4096 w || ltb 4096 h) (ltb (b .«panel_len») (size w h)) (ap numberOf (sym (accepted-plan (Resize w h) z ∙ shown)) ∙ z)
+
+  -- a new object, by the handle that is answered: a refusal answers none
+  refused-no-handle : (i h : ℕ) {A : Type 0} → Refused i ≡ Handle h → A
+  refused-no-handle i h e = let z : _≡_ {A = ℕ} 0 1 = cc in absurd (omega arith)
+
+  module _ (h : ℕ) where
+    abbrev UnmarksNew : Plan → Type 0
+    UnmarksNew p = p .outcome .answer ≡ Handle h → Unmarks m (marked (p .paint) m) (Bitmap h) everywhere
+
+    create-marks : (o : GdiObject) → UnmarksNew (createOf b o)
+    unfolding createOf marked
+    create-marks o = by (leb 256 (b .count)) (ltb (b .«store_len») (used b + bytesOf o))
+      where
+        by : (t u : Bool) → UnmarksNew (cond t (refuse 5 b) (cond u (refuse 7 b) (made b o)))
+        by true u e = refused-no-handle 5 h e
+        by false true e = refused-no-handle 7 h e
+        by false false e = let q : newHandle b ≡ h = cc in rw (← q) (blank-exact m _ _ _ (Bitmap (newHandle b)))
+
+    bitmap-marks : (w v : ℕ) → UnmarksNew (createBitmap b w v)
+    unfolding createBitmap
+    bitmap-marks w v = by (ltb 4096 w || ltb 4096 v)
+      where
+        by : (t : Bool) → UnmarksNew (cond t (refuse 6 b) (createOf b (newBitmap w v)))
+        by true e = refused-no-handle 6 h e
+        by false e = create-marks (newBitmap w v) e
+
+    act-created : {c : Call} → Creates c → UnmarksNew (act c us b)
+    unfolding act
+    act-created memory-dc = create-marks _
+    act-created (bitmap {w = w} {h = v}) = bitmap-marks w v
+    act-created brush = create-marks _
+    act-created pen = create-marks _
+    act-created font = create-marks _
+
+    created-marks : (c : Call) → Creates c → plan c us b n k .outcome .answer ≡ Handle h → Unmarks m (marksBy b n k us m c) (Bitmap h) everywhere
+    unfolding plan marksAfter
+    created-marks c i = by (eqb (commonRefusal b n k) 0)
+      where
+        by : (t : Bool) → UnmarksNew (cond t (act c us b) (refuse (commonRefusal b n k) b))
+        by true e = act-created i e
+        by false e = refused-no-handle (commonRefusal b n k) h e
+
+    -- an object that is deleted or removed, or stays
+    module _ (stock : Answer) (answer : ℕ → Answer) (none : Answer) where
+      goes-plan : (i : ℕ) → isStock h ≡ false → findOf b h ≡ At i → goes stock answer none b h .paint ≡ closing b h i
+      unfolding goes
+      goes-plan i e f = rw (e, f)
+
+      stays-plan : (isStock h ≡ true) ⊎ (findOf b h ≡ Nothing) → goes stock answer none b h .paint ≡ []
+      unfolding goes
+      stays-plan (inl e) = rw e
+      stays-plan (inr f) = by (isStock h)
+        where
+          by : (t : Bool) → cond t (told b stock) (goneAt answer none b h (findOf b h)) .paint ≡ []
+          by true = refl
+          by false = rw f
+
+    gone-marks : (c : Call) (i : ℕ) → number b n k us c ≡ 0 → act c us b .paint ≡ closing b h i → Unmarks m (marksBy b n k us m c) (Bitmap h) everywhere
+    unfolding marked
+    gone-marks c i z e = by-plan c {p = act c us b} (accepted-plan c z) (rw e (close-exact m h _ _ _))
+
+  act-set : {c : Call} → Sets c → act c us b .paint ≡ []
+  unfolding act
+  act-set (selection {dc = dc} {h = h}) = select-unpainted b dc h .paint
+  act-set (text-color {dc = dc}) = setting-unpainted _ _ (λ d. refl) b dc .paint
+  act-set (text-align {dc = dc}) = setting-unpainted _ _ (λ d. refl) b dc .paint
+  act-set (bk-color {dc = dc}) = setting-unpainted _ _ (λ d. refl) b dc .paint
+  act-set (bk-mode {dc = dc}) = setting-unpainted _ _ (λ d. refl) b dc .paint
+
+  not-resized : (w h : ℕ) → noEffect b w h ≡ true → resize b w h .paint ≡ []
+  unfolding resize
+  not-resized w h e = rw e
+
+  pub exact-marks : ExactMarks b n k us m
+  unfolding act
+  exact-marks =
+      record {
+        rectangle = λ dc a s d z e. rectangle-marks dc a s d e z;
+        text = text-marks;
+        panel-fill = λ c z. unfold paintsOf marked in by-plan (PanelFill c) (accepted-plan (PanelFill c) z) (solid-exact m Panel everywhere (c .0));
+        resize = resize-marks;
+        pattern-fill = λ dc a rop s d z e. fill-marks dc a s d e rop z;
+        blit = λ dc a src p rop s q d o z u e f. blit-marks dc a s d e src p rop z q o u f;
+        blit-ignoring = λ dc a src p rop s d z u e. ignoring-marks dc a s d e src p rop z u;
+        refused = λ c ne. unpainted-plan c (refusals-keep c us b n k ne) refl;
+        set = λ c i. unpainted c (act-set i);
+        not-resized = λ w h e. unpainted (Resize w h) (not-resized w h e);
+        not-deleted = λ h e. unpainted (Delete h) (stays-plan h _ _ _ e);
+        not-removed = λ h e. unpainted (Remove h) (stays-plan h _ _ _ e);
+        deleted = λ h i z e f. gone-marks h (Delete h) i z (goes-plan h _ _ _ i e f);
+        removed = λ h i z e f. gone-marks h (Remove h) i z (goes-plan h _ _ _ i e f);
+        created = λ c h. created-marks h c;
+      }

@@ -1,0 +1,100 @@
+-- The colour marks after a call, exactly: a field for each sentence of document 01's 'Marked pixels'. The claim alone would
+-- also hold of marks that are too many.
+use mathlib.Core.Bool.{Bool, true, false, _||_}
+use mathlib.Core.List.{List, [], _∷_}
+use mathlib.Core.Logic.{_⊎_}
+use mathlib.Core.Path.{_≡_}
+use Prim.Native.Nat.{ℕ}
+use lib.IntN.{ℤ}
+use Rattle.color.specs.declared.Colorref.{Colorref}
+use Rattle.color.specs.declared.Rgb565.{Rgb565}
+use Rattle.rop3.specs.Rop3.{tableOf, usesSrc, usesDst}
+use Rattle.text.specs.Ink.{unitCount, textInk}
+use Rattle.gdi.specs.declared.GdiState.{GdiState}
+use Rattle.gdi.specs.declared.Dc.{Dc}
+use Rattle.gdi.specs.declared.Found.the-variants.{At, Nothing}
+use Rattle.gdi.specs.Stock.{isStock}
+use Rattle.gdi.specs.Lookup.{findOf}
+use Rattle.place.specs.declared.SurfaceId.{SurfaceId}
+use Rattle.place.specs.declared.SurfaceId.the-variants.{Panel, Bitmap}
+use Rattle.place.specs.declared.Target.the-variants.{On}
+use Rattle.place.specs.Place.{whereIs, targetOf}
+use Rattle.paint.specs.Marks.{Marks, Keeps, Exactly, Unmarks, everywhere}
+use Rattle.plan.specs.declared.Answer.the-variants.{Handle}
+use Rattle.plan.specs.declared.Area.{Area}
+use Rattle.plan.specs.declared.Point.{Point}
+use Rattle.plan.specs.declared.Call.{Call}
+use Rattle.plan.specs.declared.Call.the-variants.{CreateMemoryDc, CreateCompatibleBitmap, CreateSolidBrush, CreatePen, CreateFont, Delete, Remove, SelectInto, SetTextColor, SetTextAlign, SetBkColor, SetBkMode, PatternFill, Rectangle, Text, PanelFill, Resize, Blit}
+use Rattle.plan.specs.Drawing.{boxOf, rimOf, blitBox, columnFor, rowFor}
+use Rattle.plan.specs.Panel.{noEffect}
+use Rattle.plan.specs.Calls.{plan}
+use Rattle.plan.specs.Refusal.{numberOf}
+use Rattle.noninterference.specs.Claim.{marksAfter}
+
+-- a call that makes an object
+pub data Creates : Call → Type 0 where
+  memory-dc : Creates CreateMemoryDc
+  bitmap : {w h : ℕ} → Creates (CreateCompatibleBitmap w h)
+  brush : {c : Colorref} → Creates (CreateSolidBrush c)
+  pen : {c : Colorref} {w : ℕ} → Creates (CreatePen c w)
+  font : {h : ℤ} → Creates (CreateFont h)
+
+-- a selection or a setting
+pub data Sets : Call → Type 0 where
+  selection : {dc h : ℕ} → Sets (SelectInto dc h)
+  text-color : {dc : ℕ} {c : Colorref} → Sets (SetTextColor dc c)
+  text-align : {dc v : ℕ} → Sets (SetTextAlign dc v)
+  bk-color : {dc : ℕ} {c : Colorref} → Sets (SetBkColor dc c)
+  bk-mode : {dc : ℕ} {t : Bool} → Sets (SetBkMode dc t)
+
+-- the code uses D and the pixel was marked
+abbrev pub byDestination : Marks → (rop : ℕ) → SurfaceId → (x y : ℕ) → Type 0
+byDestination m rop s x y = (usesDst (tableOf rop) ≡ true) × m s x y
+
+-- the code uses S and the source pixel taken for it, on q, was marked before the call
+abbrev pub bySource : Marks → (rop : ℕ) → SurfaceId → Area → Point → (x y : ℕ) → Type 0
+bySource m rop q a p x y = (usesSrc (tableOf rop) ≡ true) × m q (columnFor a p x) (rowFor a p y)
+
+-- One call on a record, lent with memories of these lengths.
+module _ (b : GdiState) (panel-len store-len : ℕ) (units : List ℕ) where
+  -- its number; 0 if it is accepted
+  abbrev pub number : Call → ℕ
+  number c = numberOf (plan c units b panel-len store-len)
+
+  -- the claim's marks after it; m is marked before it
+  abbrev pub marksBy : Marks → Call → Marks
+  marksBy m c = marksAfter (record { call = c; units = units } ∷ []) b panel-len store-len m
+
+  -- For every call and every outcome, what is drawn, and which pixels are marked afterwards.
+  pub record ExactMarks (m : Marks) : Type 0 where
+    -- a fill without a code, outline, ink, panel fill and an effective resize unmark what they draw
+    pub rectangle : (dc : ℕ) (a : Area) (s : SurfaceId) (d : Dc) → number (Rectangle dc a) ≡ 0 → targetOf b dc ≡ On s d
+        → Unmarks m (marksBy m (Rectangle dc a)) s (λ x y. boxOf a x y || rimOf a x y)
+    pub text : (dc : ℕ) (at : Point) (s : SurfaceId) (d : Dc) → number (Text dc at) ≡ 0 → targetOf b dc ≡ On s d
+        → Unmarks m (marksBy m (Text dc at)) s (textInk units (unitCount units) (at .x) (at .y))
+    pub panel-fill : (c : Rgb565) → number (PanelFill c) ≡ 0 → Unmarks m (marksBy m (PanelFill c)) Panel everywhere
+    pub resize : (w h : ℕ) → number (Resize w h) ≡ 0 → noEffect b w h ≡ false → Unmarks m (marksBy m (Resize w h)) Panel everywhere
+    -- under a raster code a drawn pixel is marked afterwards exactly if the code uses D and the pixel was marked
+    pub pattern-fill : (dc : ℕ) (a : Area) (rop : ℕ) (s : SurfaceId) (d : Dc) → number (PatternFill dc a rop) ≡ 0 → targetOf b dc ≡ On s d
+        → Exactly m (marksBy m (PatternFill dc a rop)) s (boxOf a) (byDestination m rop s)
+    -- or the call is a blit whose code uses S and the source pixel taken for it was marked before the call
+    pub blit : (dc : ℕ) (a : Area) (src : ℕ) (p : Point) (rop : ℕ) (s q : SurfaceId) (d e : Dc) → number (Blit dc a src p rop) ≡ 0
+        → usesSrc (tableOf rop) ≡ true → targetOf b dc ≡ On s d → targetOf b src ≡ On q e
+        → Exactly m (marksBy m (Blit dc a src p rop)) s (blitBox (whereIs b q) a p) (λ x y. byDestination m rop s x y ⊎ bySource m rop q a p x y)
+    -- a blit whose code ignores S is a pattern fill
+    pub blit-ignoring : (dc : ℕ) (a : Area) (src : ℕ) (p : Point) (rop : ℕ) (s : SurfaceId) (d : Dc) → number (Blit dc a src p rop) ≡ 0
+        → usesSrc (tableOf rop) ≡ false → targetOf b dc ≡ On s d
+        → Exactly m (marksBy m (Blit dc a src p rop)) s (boxOf a) (byDestination m rop s)
+    -- pixels not drawn and refused calls keep marks: a selection, a setting, a resize without effect and a deletion or removal of
+    -- a stock or absent handle draw no pixel
+    pub refused : (c : Call) → (number c ≡ 0 → ⊥) → Keeps m (marksBy m c)
+    pub set : (c : Call) → Sets c → Keeps m (marksBy m c)
+    pub not-resized : (w h : ℕ) → noEffect b w h ≡ true → Keeps m (marksBy m (Resize w h))
+    pub not-deleted : (h : ℕ) → (isStock h ≡ true) ⊎ (findOf b h ≡ Nothing) → Keeps m (marksBy m (Delete h))
+    pub not-removed : (h : ℕ) → (isStock h ≡ true) ⊎ (findOf b h ≡ Nothing) → Keeps m (marksBy m (Remove h))
+    -- a created bitmap's marks go when it is deleted or removed; field resize has those outside a resized panel
+    pub deleted : (h i : ℕ) → number (Delete h) ≡ 0 → isStock h ≡ false → findOf b h ≡ At i → Unmarks m (marksBy m (Delete h)) (Bitmap h) everywhere
+    pub removed : (h i : ℕ) → number (Remove h) ≡ 0 → isStock h ≡ false → findOf b h ≡ At i → Unmarks m (marksBy m (Remove h)) (Bitmap h) everywhere
+    -- a new bitmap has none
+    pub created : (c : Call) (h : ℕ) → Creates c → plan c units b panel-len store-len .outcome .answer ≡ Handle h
+        → Unmarks m (marksBy m c) (Bitmap h) everywhere

@@ -1,0 +1,35 @@
+-- Strokes: the drawings of a call, each with whether its dirty mark is due; and the plan that they make.
+use mathlib.Core.Bool.{Bool}
+use mathlib.Core.List.{List, [], _∷_}
+use mathlib.Core.Path.{_≡_}
+use Rattle.gdi.specs.declared.GdiState.{GdiState}
+use Rattle.dirty.specs.Dirty.{dirtiedIf}
+use Rattle.paint.specs.Memories.{Memories}
+use Rattle.paint.specs.Paint.{Draw, Paint, draw, after}
+use Rattle.plan.specs.declared.Answer.{Answer}
+use Rattle.plan.specs.Plan.{Plan}
+
+-- One drawing, and whether it makes a dirty mark on the surface that it draws on.
+pub record Stroke : Type 0 where
+  pub drawing : Draw
+  pub due : Bool
+
+-- the record after the dirty marks that are due, in their order
+unfoldable pub dirtiedBy : GdiState → List Stroke → GdiState
+dirtiedBy b [] = b
+dirtiedBy b (s ∷ ss) = dirtiedBy (dirtiedIf (s .due) (s .drawing .target) b) ss
+
+-- the drawings, in their order
+unfoldable pub paintsOf : List Stroke → List Paint
+paintsOf [] = []
+paintsOf (s ∷ ss) = draw (s .drawing) ∷ paintsOf ss
+
+-- The plan of an accepted drawing call, whatever it draws: the record and the paints follow from its strokes, here and nowhere
+-- else.
+abbrev pub drawnBy : GdiState → List Stroke → Answer → Plan
+drawnBy b ss a = record { outcome = record { state = dirtiedBy b ss; answer = a }; paint = paintsOf ss }
+
+-- Strokes were made: the record after has their dirty marks, and the memories after have their drawings.
+pub record Stroked (b : GdiState) (ss : List Stroke) (ms : Memories) (b′ : GdiState) (ms′ : Memories) : Type 0 where
+  pub state : b′ ≡ dirtiedBy b ss
+  pub memories : ms′ ≡ after b (paintsOf ss) ms
