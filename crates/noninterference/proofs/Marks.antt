@@ -37,7 +37,7 @@ use Rattle.plan.specs.Plan.{Plan, told, refuse}
 use Rattle.plan.specs.Stroke.{paintsOf}
 use Rattle.plan.specs.Create.{made, createOf, newBitmap, createBitmap}
 use Rattle.plan.specs.Delete.{goneAt, goes}
-use Rattle.plan.specs.Drawing.{patterned, boxOf, rimOf, patternFillOn, patternFill, rectangleOn, rectangle, textOn, text, blitBox, columnFor, rowFor, blitted, blitOn, blit}
+use Rattle.plan.specs.Drawing.{patterned, boxOf, rimOf, patternFillOn, patternFill, rectangleOn, rectangle, textOn, text, blitBox, blitted, blitOn, blit}
 use Rattle.plan.specs.Panel.{noEffect, resized, resize}
 use Rattle.plan.specs.Calls.{act, plan}
 use Rattle.plan.specs.Refusal.{numberOf}

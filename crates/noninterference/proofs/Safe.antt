@@ -103,9 +103,9 @@ memory-length b ms l Store = l .store
 pub blank-safe : (b b′ : GdiState) (k : Memory) (p n : ℕ) (clears : SurfaceId → Bool) → p + n ≤ lengthOf (b .«panel_len») (b .«store_len») k
     → (isSound b ≡ true → (u : SurfaceId) → Blanked k p n (clears u) (whereIs b u) (whereIs b′ u)) → ((m j : ℕ) → Ready b m j → Ready b′ m j) → Safe b (blank k p n clears ∷ []) b′
 unfolding after marked
-blank-safe b b′ k p n clears fits each looks =
+blank-safe b b′ k p n clears fits asked looks =
     record {
-      alike = λ m ms ns lm ln like. blank-alike k p n clears b b′ (each (lm .sound)) b m ms ns (rw (memory-length b ms lm k) fits) (rw (memory-length b ns ln k) fits) like;
+      alike = λ m ms ns lm ln like. blank-alike k p n clears b b′ (asked (lm .sound)) b m ms ns (rw (memory-length b ms lm k) fits) (rw (memory-length b ns ln k) fits) like;
       panel = λ ms l. blank-panel b p n clears ms k (rw (memory-length b ms l k) fits);
       store = λ ms l. blank-store b p n clears ms k (rw (memory-length b ms l k) fits);
       looks = looks _ _;

@@ -1,5 +1,5 @@
 -- The marks after each kind of paint, exactly. Assumes nothing.
-use mathlib.Core.Bool.{Bool, true, false, _&&_, _||_}
+use mathlib.Core.Bool.{Bool, true, false, cond, _&&_, _||_}
 use mathlib.Core.Logic.{_↔_, _⊎_, inl, inr, Iff·rfl, Iff·trans}
 use mathlib.Core.Path.{_≡_, refl, sym, _∙_}
 use Prim.Native.Nat.{ℕ}
@@ -60,19 +60,18 @@ module _ {m n o : Marks} {s : SurfaceId} {f g : (x y : ℕ) → Bool} (e : Unmar
   pub two-exact : Unmarks m o s (λ x y. f x y || g x y)
   two-exact = record { drawn = λ x y z. either-drawn x y (f x y) (g x y) refl refl z; others = λ u x y z. neither-drawn u x y (same u s) refl z }
 
--- blanked bytes unmark the surface that they clear, and a deletion its bitmap
-pub blank-exact : (m : Marks) (k : Memory) (p n : ℕ) (s : SurfaceId) → Unmarks m (markedBy (blank k p n (only s)) m) s everywhere
-unfolding markedBy
-blank-exact m k p n s =
+-- one surface loses its marks: the one that blanked bytes clear, or a deleted bitmap
+cleared : (m : Marks) (s : SurfaceId) → Unmarks m (λ u x y. cond (same u s) ⊥ (m u x y)) s everywhere
+cleared m s =
     record {
       drawn = λ x y t. rw (same-self s) Iff·rfl;
       others = λ u x y f. let e : same u s ≡ false = sym (and-true (same u s)) ∙ f in rw e Iff·rfl;
     }
 
+pub blank-exact : (m : Marks) (k : Memory) (p n : ℕ) (s : SurfaceId) → Unmarks m (markedBy (blank k p n (only s)) m) s everywhere
+unfolding markedBy
+blank-exact m k p n s = cleared m s
+
 pub close-exact : (m : Marks) (h p n used : ℕ) → Unmarks m (markedBy (close h p n used) m) (Bitmap h) everywhere
 unfolding markedBy
-close-exact m h p n used =
-    record {
-      drawn = λ x y t. rw (same-self (Bitmap h)) Iff·rfl;
-      others = λ u x y f. let e : same u (Bitmap h) ≡ false = sym (and-true (same u (Bitmap h))) ∙ f in rw e Iff·rfl;
-    }
+close-exact m h p n used = cleared m (Bitmap h)

@@ -50,8 +50,7 @@ pub data Off (p n : ℕ) : Memory → Place → Type 0 where
   no-bytes : {k : Memory} → Off p n k Nowhere
   on-panel : {q w h : ℕ} → Off p n Store (At PanelMemory q w h)
   in-store : {q w h : ℕ} → Off p n PanelMemory (At Store q w h)
-  below : {k : Memory} {q w h : ℕ} → q + size w h ≤ p → Off p n k (At k q w h)
-  above : {k : Memory} {q w h : ℕ} → p + n ≤ q → Off p n k (At k q w h)
+  apart : {k : Memory} {q w h : ℕ} → ((j : ℕ) → q ≤ j → j < q + size w h → p ≤ j → j < p + n → ⊥) → Off p n k (At k q w h)
 
 -- what is asked of each surface: it is cleared and lies among the blanked bytes now; or it is not, and lies off them where it
 -- lay before
@@ -72,10 +71,8 @@ module _ (ms : Memories) (p n : ℕ) where
   off-pixels no-bytes fits = refl
   off-pixels on-panel fits = refl
   off-pixels in-store fits = refl
-  off-pixels (below {k = k} {q = q} {w = w} {h = h} e) fits =
-      rw (memory-put ms k (blanked (memoryOf ms k) p n)) (part-other (memoryOf ms k) (replicate n 0) p n (length-replicate n 0) fits q (size w h) (λ j a b c d. omega arith))
-  off-pixels (above {k = k} {q = q} {w = w} {h = h} e) fits =
-      rw (memory-put ms k (blanked (memoryOf ms k) p n)) (part-other (memoryOf ms k) (replicate n 0) p n (length-replicate n 0) fits q (size w h) (λ j a b c d. omega arith))
+  off-pixels (apart {k = k} {q = q} {w = w} {h = h} off) fits =
+      rw (memory-put ms k (blanked (memoryOf ms k) p n)) (part-other (memoryOf ms k) (replicate n 0) p n (length-replicate n 0) fits q (size w h) off)
 
 -- a part of blanked bytes
 part-black : (m : List ℕ) (p n q c : ℕ) → p + n ≤ length m → p ≤ q → q + c ≤ p + n → part (blanked m p n) q c ≡ replicate c 0
@@ -98,12 +95,12 @@ among-alike p n (within {k = k} {q = q} {w = w} {h = h} a b) ms ns f g =
     rw (memory-put ms k (blanked (memoryOf ms k) p n), memory-put ns k (blanked (memoryOf ns k) p n))
     (part-black (memoryOf ms k) p n q (size w h) f a b ∙ sym (part-black (memoryOf ns k) p n q (size w h) g a b))
 
-module _ (k : Memory) (p n : ℕ) (clears : SurfaceId → Bool) (b b′ : GdiState) (each : (u : SurfaceId) → Blanked k p n (clears u) (whereIs b u) (whereIs b′ u)) where
+module _ (k : Memory) (p n : ℕ) (clears : SurfaceId → Bool) (b b′ : GdiState) (asked : (u : SurfaceId) → Blanked k p n (clears u) (whereIs b u) (whereIs b′ u)) where
   -- unmarked pixels stay alike, and cleared surfaces are alike whatever was marked
   pub blank-alike : (a : GdiState) (m : Marks) (ms ns : Memories) → p + n ≤ length (memoryOf ms k) → p + n ≤ length (memoryOf ns k) → Alike b m ms ns
       → Alike b′ (markedBy (blank k p n clears) m) (paintedBy a (blank k p n clears) ms) (paintedBy a (blank k p n clears) ns)
   unfolding markedBy paintedBy
-  blank-alike a m ms ns f g like u x y i none = by (each u) (like u x y) i none
+  blank-alike a m ms ns f g like u x y i none = by (asked u) (like u x y) i none
     where
       by : {t : Bool} {then now : Place} → Blanked k p n t then now → (inside then x y ≡ true → (m u x y → ⊥) → colourAt ms then x y ≡ colourAt ns then x y)
           → inside now x y ≡ true → (cond t ⊥ (m u x y) → ⊥) → colourAt (blacked ms k p n) now x y ≡ colourAt (blacked ns k p n) now x y
@@ -196,7 +193,7 @@ ends b sound (Bitmap h) = places (cut b) (cut-sound b sound) (Bitmap h)
 ends-off : (a p n : ℕ) (at : Place) → Within a p at → Off p n Store at
 ends-off a p n Nowhere i = no-bytes
 ends-off a p n (At PanelMemory q w h) i = on-panel
-ends-off a p n (At Store q w h) i = below (i .fits)
+ends-off a p n (At Store q w h) i = let end : q + size w h ≤ p = i .fits in apart {q = q} {w = w} {h = h} (λ j from to there within. omega (arith, end))
 
 -- a new object's bytes
 frame-among : (o : GdiObject) (p : ℕ) → Among p (bytesOf o) Store (frameOf o p)

@@ -14,7 +14,12 @@ use Rattle.plan.specs.declared.Answer.{Answer}
 use Rattle.plan.specs.Stroke.{Stroke, dirtiedBy, paintsOf, drawnBy, Stroked}
 use Rattle.plan.specs.Calls.{Followed}
 
--- the record after their dirty marks: every surface in its place, as many objects, one list after another
+-- the record after their dirty marks: one list after another, every surface in its place, as many objects
+dirtied-by-append : (ss ts : List Stroke) (b : GdiState) → dirtiedBy b (ss ++ ts) ≡ dirtiedBy (dirtiedBy b ss) ts
+unfolding dirtiedBy
+dirtied-by-append [] ts b = refl
+dirtied-by-append (s ∷ ss) ts b = dirtied-by-append ss ts (dirtiedIf (s .due) (s .drawing .target) b)
+
 pub dirtied-by-still : (ss : List Stroke) (b : GdiState) → Still b (dirtiedBy b ss)
 unfolding dirtiedBy
 dirtied-by-still [] b = still-same b
@@ -24,11 +29,6 @@ pub dirtied-by-count : (ss : List Stroke) (b : GdiState) → dirtiedBy b ss .cou
 unfolding dirtiedBy
 dirtied-by-count [] b = refl
 dirtied-by-count (s ∷ ss) b = dirtied-by-count ss (dirtiedIf (s .due) (s .drawing .target) b) ∙ dirtied-if-count (s .due) (s .drawing .target) b
-
-dirtied-by-append : (ss ts : List Stroke) (b : GdiState) → dirtiedBy b (ss ++ ts) ≡ dirtiedBy (dirtiedBy b ss) ts
-unfolding dirtiedBy
-dirtied-by-append [] ts b = refl
-dirtied-by-append (s ∷ ss) ts b = dirtied-by-append ss ts (dirtiedIf (s .due) (s .drawing .target) b)
 
 -- the memories after their drawings: one list after another
 painted-append : (b : GdiState) (ss ts : List Stroke) (ms : Memories) → after b (paintsOf (ss ++ ts)) ms ≡ after b (paintsOf ts) (after b (paintsOf ss) ms)
