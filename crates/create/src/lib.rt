@@ -1,22 +1,27 @@
-// The create calls, on a record that is sound and lent with its store.
+// The create calls, on a record lent as numbers.
 ghost use mathlib.Core.Path.{_≡_};
 ghost use mathlib.Core.Bool.{true};
 ghost use lib.ListN.{length};
 ghost use Rattle.gdi.specs.declared.GdiObject.the-variants.{Dc as DcOf, Brush as BrushOf, Pen as PenOf, Font as FontOf};
 ghost use Rattle.gdi.specs.Record.{defaultDc};
-ghost use Rattle.sound.specs.Sound.{isSound, objectFits};
+ghost use Rattle.numbers.specs.View.{view};
+ghost use Rattle.sound.specs.Sound.{objectFits};
 ghost use Rattle.plan.specs.Create.{sideOf, createOf, createBitmap};
-ghost use Rattle.plan.specs.Calls.{Done};
+ghost use Rattle.ready.specs.Ready.{Lent};
+ghost use Rattle.paint.specs.Memories.{memories};
+ghost use mathlib.Core.List.{List};
+ghost use Prim.Native.Nat.{ℕ};
+ghost use Rattle.plan.specs.Answer.{partsOf};
+ghost use Rattle.plan.specs.Followed.{Followed};
 use color::Colorref;
-use gdi::Bitmap;
 use gdi::Brush;
 use gdi::Font;
 use gdi::GdiObject;
-use gdi::GdiState;
 use gdi::MAX_OBJECTS;
 use gdi::Pen;
+use numbers::COUNT;
+use numbers::STORE_LEN;
 use plan::Answer;
-use plan::Outcome;
 use surface::BAD_SIDE;
 use surface::MAX_SIDE;
 
@@ -27,110 +32,82 @@ pub const TABLE_FULL: u32 = 5;
 pub const STORE_FULL: u32 = 7;
 
 // The new object behind the others, its pixels black.
-pub fn make(state: GdiState, store: &mut [u8], object: GdiObject) -> Outcome
-    requires { ⌜ isSound state ≡ true ⌝ }
+fn make(l: &mut [u32], store: &mut [u8], object: GdiObject) -> Answer
+    requires { ⌜ Lent (now l) (view (now l) .«panel_len») (length (now store)) ⌝ }
     requires { ⌜ objectFits object ≡ true ⌝ }
-    requires { ⌜ length (now store) ≡ state .«store_len» ⌝ }
-    ensures { λ r. ⌜ Done (createOf state object) state (now (store .entry)) r (now (store .exit)) ⌝ }
+    ensures { λ r. ⌜ ((panel : List ℕ) → Followed (createOf (view (now (l .entry))) object) (now (l .entry)) (memories panel (now (store .entry))) (partsOf r) (now (l .exit)) (memories panel (now (store .exit)))) ⌝ }
 {
-    if state.count >= MAX_OBJECTS {
-        return Outcome {
-            state: state,
-            answer: Answer::Refused(TABLE_FULL),
-        };
+    let count = l[COUNT] as usize;
+    if count >= MAX_OBJECTS {
+        return Answer::Refused(TABLE_FULL);
     }
-    let at = sound::start_of(state, state.count);
-    let n = sound::bytes_of(object);
-    if at + n > state.store_len {
-        return Outcome {
-            state: state,
-            answer: Answer::Refused(STORE_FULL),
-        };
+    let start = sound::start_of(l, count);
+    let n = sound::object_bytes(object);
+    if start + n > l[STORE_LEN] as usize {
+        return Answer::Refused(STORE_FULL);
     }
-    memory::zero(store, at, n);
-    let h = handles::alloc_handle(state);
-    let after = handles::append(state, h, object);
-    Outcome {
-        state: after,
-        answer: Answer::Handle(h),
-    }
+    memory::zero(store, start, n);
+    let h = handles::alloc_handle(l);
+    handles::append(l, h, object);
+    Answer::Handle(h)
 }
 
 // A side of 0 becomes 1.
-pub fn side_of(n: u32) -> u32
+fn side_of(n: u32) -> u32
     ensures { λ r. ⌜ r ≡ sideOf n ⌝ }
 {
     if n == 0 { 1 } else { n }
 }
 
-pub fn create_compatible_bitmap(
-    state: GdiState,
-    store: &mut [u8],
-    width: u32,
-    height: u32,
-) -> Outcome
-    requires { ⌜ isSound state ≡ true ⌝ }
-    requires { ⌜ length (now store) ≡ state .«store_len» ⌝ }
-    ensures { λ r. ⌜ Done (createBitmap state width height) state (now (store .entry)) r (now (store .exit)) ⌝ }
+pub fn create_compatible_bitmap(l: &mut [u32], store: &mut [u8], width: u32, height: u32) -> Answer
+    requires { ⌜ Lent (now l) (view (now l) .«panel_len») (length (now store)) ⌝ }
+    ensures { λ r. ⌜ ((panel : List ℕ) → Followed (createBitmap (view (now (l .entry))) width height) (now (l .entry)) (memories panel (now (store .entry))) (partsOf r) (now (l .exit)) (memories panel (now (store .exit)))) ⌝ }
 {
     if width > MAX_SIDE {
-        return Outcome {
-            state: state,
-            answer: Answer::Refused(BAD_SIDE),
-        };
+        return Answer::Refused(BAD_SIDE);
     }
     if height > MAX_SIDE {
-        return Outcome {
-            state: state,
-            answer: Answer::Refused(BAD_SIDE),
-        };
+        return Answer::Refused(BAD_SIDE);
     }
     let w = side_of(width);
     let h = side_of(height);
-    let o = GdiObject::Bitmap(Bitmap {
-        width: w,
-        height: h,
-        host_dirty: false,
-    });
-    make(state, store, o)
+    let m = gdi::new_bitmap(w, h);
+    let o = GdiObject::Bitmap(m);
+    make(l, store, o)
 }
 
-pub fn create_memory_dc(state: GdiState, store: &mut [u8]) -> Outcome
-    requires { ⌜ isSound state ≡ true ⌝ }
-    requires { ⌜ length (now store) ≡ state .«store_len» ⌝ }
-    ensures { λ r. ⌜ Done (createOf state (DcOf defaultDc)) state (now (store .entry)) r (now (store .exit)) ⌝ }
+pub fn create_memory_dc(l: &mut [u32], store: &mut [u8]) -> Answer
+    requires { ⌜ Lent (now l) (view (now l) .«panel_len») (length (now store)) ⌝ }
+    ensures { λ r. ⌜ ((panel : List ℕ) → Followed (createOf (view (now (l .entry))) (DcOf defaultDc)) (now (l .entry)) (memories panel (now (store .entry))) (partsOf r) (now (l .exit)) (memories panel (now (store .exit)))) ⌝ }
 {
     let d = gdi::default_dc();
     let o = GdiObject::Dc(d);
-    make(state, store, o)
+    make(l, store, o)
 }
 
-pub fn create_solid_brush(state: GdiState, store: &mut [u8], color: Colorref) -> Outcome
-    requires { ⌜ isSound state ≡ true ⌝ }
-    requires { ⌜ length (now store) ≡ state .«store_len» ⌝ }
-    ensures { λ r. ⌜ Done (createOf state (BrushOf (record { color = color }))) state (now (store .entry)) r (now (store .exit)) ⌝ }
+pub fn create_solid_brush(l: &mut [u32], store: &mut [u8], color: Colorref) -> Answer
+    requires { ⌜ Lent (now l) (view (now l) .«panel_len») (length (now store)) ⌝ }
+    ensures { λ r. ⌜ ((panel : List ℕ) → Followed (createOf (view (now (l .entry))) (BrushOf (record { color = color }))) (now (l .entry)) (memories panel (now (store .entry))) (partsOf r) (now (l .exit)) (memories panel (now (store .exit)))) ⌝ }
 {
     let o = GdiObject::Brush(Brush { color: color });
-    make(state, store, o)
+    make(l, store, o)
 }
 
-pub fn create_pen(state: GdiState, store: &mut [u8], color: Colorref, width: u32) -> Outcome
-    requires { ⌜ isSound state ≡ true ⌝ }
-    requires { ⌜ length (now store) ≡ state .«store_len» ⌝ }
-    ensures { λ r. ⌜ Done (createOf state (PenOf (record { color = color; width = width }))) state (now (store .entry)) r (now (store .exit)) ⌝ }
+pub fn create_pen(l: &mut [u32], store: &mut [u8], color: Colorref, width: u32) -> Answer
+    requires { ⌜ Lent (now l) (view (now l) .«panel_len») (length (now store)) ⌝ }
+    ensures { λ r. ⌜ ((panel : List ℕ) → Followed (createOf (view (now (l .entry))) (PenOf (record { color = color; width = width }))) (now (l .entry)) (memories panel (now (store .entry))) (partsOf r) (now (l .exit)) (memories panel (now (store .exit)))) ⌝ }
 {
     let o = GdiObject::Pen(Pen {
         color: color,
         width: width,
     });
-    make(state, store, o)
+    make(l, store, o)
 }
 
-pub fn create_font(state: GdiState, store: &mut [u8], height: i32) -> Outcome
-    requires { ⌜ isSound state ≡ true ⌝ }
-    requires { ⌜ length (now store) ≡ state .«store_len» ⌝ }
-    ensures { λ r. ⌜ Done (createOf state (FontOf (record { height = height }))) state (now (store .entry)) r (now (store .exit)) ⌝ }
+pub fn create_font(l: &mut [u32], store: &mut [u8], height: i32) -> Answer
+    requires { ⌜ Lent (now l) (view (now l) .«panel_len») (length (now store)) ⌝ }
+    ensures { λ r. ⌜ ((panel : List ℕ) → Followed (createOf (view (now (l .entry))) (FontOf (record { height = height }))) (now (l .entry)) (memories panel (now (store .entry))) (partsOf r) (now (l .exit)) (memories panel (now (store .exit)))) ⌝ }
 {
     let o = GdiObject::Font(Font { height: height });
-    make(state, store, o)
+    make(l, store, o)
 }

@@ -9,9 +9,9 @@ use denote.Struct.Laws as LL
 use Rattle.color.proofs.Colorref as C
 use Rattle.color.proofs.Colorref.Laws as C′
 use Rattle.gdi.specs.declared.Dc.{Dc}
+use Rattle.gdi.specs.Updates.{withTextColor, withTextAlign, withBkColor, withBkMode}
 use Rattle.gdi.proofs.Dc as T
 use Rattle.gdi.proofs.Dc.Laws as T′
-use Rattle.plan.specs.Dc.{withTextColor, withTextAlign, withBkColor, withBkMode}
 use Rattle.dc_mut.proofs.Setting.{Kind, Setting, IsDc, spelled}
 
 abbrev pub colour : Kind

@@ -1,6 +1,6 @@
 // Settings of one DC record: lent, and by value.
 ghost use mathlib.Core.Path.{_≡_};
-ghost use Rattle.plan.specs.Dc.{withTextColor, withTextAlign, withBkColor, withBkMode};
+ghost use Rattle.gdi.specs.Updates.{withTextColor, withTextAlign, withBkColor, withBkMode};
 use color::Colorref;
 use gdi::Dc;
 

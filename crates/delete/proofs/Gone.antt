@@ -1,38 +1,63 @@
--- The cases of delete and remove: a stock object, a created one and none, each performed as its plan says. Assumes nothing.
+-- Delete and remove: the object that is found, as the code reads it, and the cases of their plans. Assumes nothing.
 use mathlib.Core.Bool.{true, false}
 use mathlib.Core.List.{List}
-use mathlib.Core.Path.{_≡_, refl}
-use Prim.Native.Nat.{ℕ}
+use mathlib.Core.Path.{_≡_, refl, sym, _∙_}
+use Prim.Native.Nat.{ℕ, _+_, _*_, _-_, _<_}
+use native.Mathlib.Omega.{arith}
+use Rattle.words.specs.Parts.{part}
 use Rattle.gdi.specs.declared.GdiState.{GdiState}
 use Rattle.gdi.specs.declared.Found.{Found}
 use Rattle.gdi.specs.declared.Found.the-variants.{At, Nothing}
+use Rattle.gdi.specs.declared.GdiObject.{GdiObject}
 use Rattle.gdi.specs.Record.{bytesOf}
 use Rattle.gdi.specs.Stock.{isStock}
 use Rattle.gdi.specs.Lookup.{objectAt, findOf}
+use Rattle.gdi.proofs.Scan.{found-count}
+use Rattle.numbers.specs.Layout.{objectSize, slotSize, countPlace, slotPlace, kindPlace, objectPlace}
+use Rattle.numbers.specs.Block.{at, objectOf}
+use Rattle.numbers.specs.View.{view, isRecord, Stored}
+use Rattle.numbers.proofs.Seen.{count-seen, object-seen}
 use Rattle.sound.specs.Sound.{startOf, used}
 use Rattle.memory.specs.Gap.{closedUp}
 use Rattle.removal.specs.Removal.{withoutAt}
-use Rattle.plan.specs.declared.Answer.{Answer}
+use Rattle.paint.specs.Memories.{memories}
 use Rattle.paint.specs.Paint.{paintedBy, after}
+use Rattle.plan.specs.Answer.{Parts}
+use Rattle.plan.specs.Plan.{told}
 use Rattle.plan.specs.Delete.{goneAt, goes}
-use Rattle.plan.specs.Calls.{Done}
+use Rattle.plan.specs.Followed.{Followed}
+use Rattle.plan.proofs.Followed.{acceptance}
 
-module _ (stock : Answer) (gone : ℕ → Answer) (none : Answer) (b : GdiState) (store : List ℕ) (h : ℕ) where
-  pub stays : isStock h ≡ true → Done (goes stock gone none b h) b store (record { state = b; answer = stock }) store
-  unfolding goes after
-  stays e = rw e (record { outcome = refl; memories = λ panel. refl })
+-- the slot that is found holds an object
+pub found-in : (l : List ℕ) (h : ℕ) {q : Found} → q ≡ findOf (view l) h → {i : ℕ} → q ≡ At i → i < at l countPlace
+found-in l h e g = rw (count-seen l) at (found-count (view l) h (sym e ∙ g))
+
+module _ (l : List ℕ) (r : isRecord l ≡ true) (i : ℕ) (lt : i < at l countPlace) where
+  -- the object as the code reads it
+  pub object-read : {o : GdiObject} → o ≡ objectOf (at l (slotPlace i + kindPlace)) (part l (slotPlace i + objectPlace) (slotPlace i + slotSize - (slotPlace i + objectPlace))) → o ≡ objectAt (view l) i
+  object-read e = let m : slotPlace i + slotSize - (slotPlace i + objectPlace) ≡ objectSize = omega arith in (rw m at e) ∙ sym (object-seen l r i lt)
+
+-- the cases of a plan: a stock object, a created one and none
+module _ (stock : Parts) (gone : ℕ → Parts) (none : Parts) (b : GdiState) (h : ℕ) where
+  pub stays : isStock h ≡ true → goes stock gone none b h ≡ told b stock
+  unfolding goes
+  stays e = rw e
 
   module _ (ns : isStock h ≡ false) {q : Found} (f : q ≡ findOf b h) where
     looked : goes stock gone none b h ≡ goneAt gone none b h q
     unfolding goes
     looked = rw (ns, ← f)
 
-    pub is-none : q ≡ Nothing → Done (goes stock gone none b h) b store (record { state = b; answer = none }) store
-    unfolding after
-    is-none g = rw (looked, g) (record { outcome = refl; memories = λ panel. refl })
+    pub is-none : q ≡ Nothing → goes stock gone none b h ≡ told b none
+    is-none g = looked ∙ rw g
 
-    pub leaves : {i : ℕ} → q ≡ At i → {a : GdiState} → a ≡ withoutAt b i
-        → {l : List ℕ} → l ≡ closedUp 0 store (startOf b i) (bytesOf (objectAt b i)) (used b)
-        → Done (goes stock gone none b h) b store (record { state = a; answer = gone i }) l
-    unfolding after paintedBy
-    leaves g ea el = rw (looked, g, ea, el) (record { outcome = refl; memories = λ panel. refl })
+    pub leaves : {i : ℕ} → q ≡ At i → goes stock gone none b h ≡ goneAt gone none b h (At i)
+    leaves g = looked ∙ rw g
+
+-- a created object that was taken out, with the answer a
+pub gone-followed : (stock : Parts) (gone : ℕ → Parts) (none : Parts) (l : List ℕ) (h : ℕ) {i : ℕ} {a : Parts} {l′ store store′ : List ℕ}
+    → goes stock gone none (view l) h ≡ goneAt gone none (view l) h (At i) → a ≡ gone i → a .number ≡ 0 → Stored l (withoutAt (view l) i) l′
+    → store′ ≡ closedUp 0 store (startOf (view l) i) (bytesOf (objectAt (view l) i)) (used (view l))
+    → (panel : List ℕ) → Followed (goes stock gone none (view l) h) l (memories panel store) a l′ (memories panel store′)
+unfolding after paintedBy
+gone-followed stock gone none l h e a z s closed panel = acceptance z (rw (e, a)) s (rw (e, closed))

@@ -1,67 +1,55 @@
-// Delete and remove, on a record that is sound and lent with its store.
-ghost use mathlib.Core.Path.{_≡_};
+// Delete and remove, on a record lent as numbers.
 ghost use mathlib.Core.Bool.{true};
 ghost use lib.ListN.{length};
-ghost use Rattle.sound.specs.Sound.{isSound};
+ghost use Rattle.numbers.specs.View.{view};
 ghost use Rattle.plan.specs.Delete.{delete, remove};
-ghost use Rattle.plan.specs.Calls.{Done};
+ghost use Rattle.ready.specs.Ready.{Lent};
+ghost use Rattle.paint.specs.Memories.{memories};
+ghost use mathlib.Core.List.{List};
+ghost use Prim.Native.Nat.{ℕ};
+ghost use Rattle.plan.specs.Answer.{partsOf};
+ghost use Rattle.plan.specs.Followed.{Followed};
 use gdi::Found;
-use gdi::GdiState;
+use numbers::KIND;
+use numbers::OBJECT;
+use numbers::SLOT;
+use numbers::SLOTS;
 use plan::Answer;
-use plan::Outcome;
 
 // A created object goes. Stock objects stay, and count as deleted.
-pub fn delete(state: GdiState, store: &mut [u8], handle: u32) -> Outcome
-    requires { ⌜ isSound state ≡ true ⌝ }
-    requires { ⌜ length (now store) ≡ state .«store_len» ⌝ }
-    ensures { λ r. ⌜ Done (delete state handle) state (now (store .entry)) r (now (store .exit)) ⌝ }
+pub fn delete(l: &mut [u32], store: &mut [u8], handle: u32) -> Answer
+    requires { ⌜ Lent (now l) (view (now l) .«panel_len») (length (now store)) ⌝ }
+    ensures { λ r. ⌜ ((panel : List ℕ) → Followed (delete (view (now (l .entry))) handle) (now (l .entry)) (memories panel (now (store .entry))) (partsOf r) (now (l .exit)) (memories panel (now (store .exit)))) ⌝ }
 {
     if gdi::is_stock_handle(handle) {
-        return Outcome {
-            state: state,
-            answer: Answer::Deleted(true),
-        };
+        return Answer::Deleted(true);
     }
-    match lookup::find(state, handle) {
+    match lookup::find(l, handle) {
         Found::At(i) => {
-            let after = removal::take_out(state, store, i);
-            Outcome {
-                state: after,
-                answer: Answer::Deleted(true),
-            }
+            removal::take_out(l, store, i);
+            Answer::Deleted(true)
         }
-        Found::Nothing => Outcome {
-            state: state,
-            answer: Answer::Deleted(false),
-        },
+        Found::Nothing => Answer::Deleted(false),
     }
 }
 
 // A created object goes, and its record is the answer.
-pub fn remove(state: GdiState, store: &mut [u8], handle: u32) -> Outcome
-    requires { ⌜ isSound state ≡ true ⌝ }
-    requires { ⌜ length (now store) ≡ state .«store_len» ⌝ }
-    ensures { λ r. ⌜ Done (remove state handle) state (now (store .entry)) r (now (store .exit)) ⌝ }
+pub fn remove(l: &mut [u32], store: &mut [u8], handle: u32) -> Answer
+    requires { ⌜ Lent (now l) (view (now l) .«panel_len») (length (now store)) ⌝ }
+    ensures { λ r. ⌜ ((panel : List ℕ) → Followed (remove (view (now (l .entry))) handle) (now (l .entry)) (memories panel (now (store .entry))) (partsOf r) (now (l .exit)) (memories panel (now (store .exit)))) ⌝ }
 {
     if gdi::is_stock_handle(handle) {
-        return Outcome {
-            state: state,
-            answer: Answer::NotRemoved,
-        };
+        return Answer::NotRemoved;
     }
-    match lookup::find(state, handle) {
+    match lookup::find(l, handle) {
         Found::At(i) => {
-            let s = state.objects[i];
-            let o = s.object;
-            let after = removal::take_out(state, store, i);
-            Outcome {
-                state: after,
-                answer: Answer::Removed(o),
-            }
+            let p = SLOTS + SLOT * i;
+            let first = p + OBJECT;
+            let end = p + SLOT;
+            let o = numbers::object_of(l[p + KIND], &l[first..end]);
+            removal::take_out(l, store, i);
+            Answer::Removed(o)
         }
-        Found::Nothing => Outcome {
-            state: state,
-            answer: Answer::NotRemoved,
-        },
+        Found::Nothing => Answer::NotRemoved,
     }
 }

@@ -1,2 +1,3 @@
 pub mod Marks
 pub mod Still
+pub mod Numbers

@@ -1,5 +1,5 @@
 -- Dirty marks.
-use mathlib.Core.Bool.{Bool, true, cond}
+use mathlib.Core.Bool.{Bool, cond}
 use Prim.Native.Nat.{_+_, _%_}
 use lib.Dec.{eqb}
 use lib.ListN.{set}
@@ -9,8 +9,8 @@ use Rattle.gdi.specs.declared.Found.{Found}
 use Rattle.gdi.specs.declared.Found.the-variants.{At, Nothing}
 use Rattle.gdi.specs.declared.GdiObject.{GdiObject}
 use Rattle.gdi.specs.declared.GdiObject.the-variants.{Dc, Bitmap as BitmapOf, Brush, Pen, Font}
-use Rattle.gdi.specs.Record.{withObjects}
 use Rattle.gdi.specs.Stock.{stockBitmap}
+use Rattle.gdi.specs.Updates.{withFrames, withStockDirty, withObjects, withHostDirty}
 use Rattle.gdi.specs.Lookup.{slotAt, findOf}
 use Rattle.place.specs.declared.SurfaceId.{SurfaceId}
 use Rattle.place.specs.declared.SurfaceId.the-variants.{Panel, Bitmap}
@@ -18,7 +18,7 @@ use Rattle.place.specs.declared.SurfaceId.the-variants.{Panel, Bitmap}
 -- a bitmap with its mark; any other object as it is
 abbrev pub objectDirtied : GdiObject → GdiObject
 objectDirtied (Dc d) = Dc d
-objectDirtied (BitmapOf m) = BitmapOf (record { width = m .width; height = m .height; «host_dirty» = true })
+objectDirtied (BitmapOf m) = BitmapOf (withHostDirty m)
 objectDirtied (Brush x) = Brush x
 objectDirtied (Pen x) = Pen x
 objectDirtied (Font x) = Font x
@@ -28,35 +28,7 @@ slotDirtied s = record { handle = s .handle; object = objectDirtied (s .object) 
 
 -- one frame more: the counter goes round to 0 after its last value
 abbrev pub framed : GdiState → GdiState
-framed b =
-    record {
-      «panel_len» = b .«panel_len»;
-      «store_len» = b .«store_len»;
-      width = b .width;
-      height = b .height;
-      «frame_counter» = (b .«frame_counter» + 1) % 18446744073709551616;
-      «next_handle» = b .«next_handle»;
-      screen = b .screen;
-      «stock_dirty» = b .«stock_dirty»;
-      count = b .count;
-      objects = b .objects;
-    }
-
--- the stock bitmap with its mark
-abbrev pub stockDirtied : GdiState → GdiState
-stockDirtied b =
-    record {
-      «panel_len» = b .«panel_len»;
-      «store_len» = b .«store_len»;
-      width = b .width;
-      height = b .height;
-      «frame_counter» = b .«frame_counter»;
-      «next_handle» = b .«next_handle»;
-      screen = b .screen;
-      «stock_dirty» = true;
-      count = b .count;
-      objects = b .objects;
-    }
+framed b = withFrames b ((b .«frame_counter» + 1) % 18446744073709551616)
 
 -- a created object with its mark
 abbrev pub createdDirtied : GdiState → Found → GdiState
@@ -66,7 +38,7 @@ createdDirtied b Nothing = b
 -- a dirty mark adds 1 to the panel's frame counter (64 bits), or sets a bitmap's host_dirty
 unfoldable pub dirtied : GdiState → SurfaceId → GdiState
 dirtied b Panel = framed b
-dirtied b (Bitmap h) = cond (eqb h stockBitmap) (stockDirtied b) (createdDirtied b (findOf b h))
+dirtied b (Bitmap h) = cond (eqb h stockBitmap) (withStockDirty b) (createdDirtied b (findOf b h))
 
 -- the same if a mark is due
 unfoldable pub dirtiedIf : Bool → SurfaceId → GdiState → GdiState

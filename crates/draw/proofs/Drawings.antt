@@ -1,4 +1,4 @@
--- What a drawing on a surface's place leaves is its plan's paint and mark; so two, one after the other. Assumes nothing.
+-- The plans of pattern fill, rectangle and text by their DC's target, and a drawing's stroke on the numbers. Assumes nothing.
 use mathlib.Core.Bool.{Bool, cond}
 use mathlib.Core.List.{List, [], _∷_}
 use mathlib.Core.Path.{_≡_, refl, _∙_, ap, subst}
@@ -9,27 +9,27 @@ use Rattle.rop3.specs.Rop3.{tableOf}
 use Rattle.text.specs.Ink.{unitCount}
 use Rattle.gdi.specs.declared.GdiState.{GdiState}
 use Rattle.gdi.specs.declared.Dc.{Dc}
+use Rattle.numbers.specs.View.{view, Stored}
 use Rattle.ready.specs.Ready.{Ready}
 use Rattle.place.specs.declared.Place.{Place}
+use Rattle.place.specs.declared.Site.{Site}
 use Rattle.place.specs.declared.SurfaceId.{SurfaceId}
 use Rattle.place.specs.declared.Target.{Target}
 use Rattle.place.specs.declared.Target.the-variants.{On}
 use Rattle.place.specs.Place.{targetOf, Within, Placed}
 use Rattle.place.proofs.Same.{Still}
 use Rattle.dirty.specs.Dirty.{dirtiedIf}
-use Rattle.plan.specs.declared.Answer.the-variants.{Refused}
-use Rattle.plan.specs.declared.Area.{Area}
-use Rattle.plan.specs.declared.Outcome.{Outcome}
-use Rattle.plan.specs.declared.Point.{Point}
 use Rattle.paint.specs.Memories.{Memories, widthOf, over}
 use Rattle.paint.specs.Paint.{paintedBy, after}
+use Rattle.plan.specs.declared.Area.{Area}
+use Rattle.plan.specs.declared.Point.{Point}
 use Rattle.plan.specs.Plan.{Plan, refuse}
-use Rattle.plan.specs.Stroke.{dirtiedBy, paintsOf, Stroked}
+use Rattle.plan.specs.Stroke.{dirtiedBy, paintsOf}
 use Rattle.plan.specs.Drawing.{patterned, marksAt, patternFillOn, patternFill, rectangleOn, rectangle, textOn, text}
-use Rattle.plan.specs.Calls.{Followed}
+use Rattle.plan.specs.Followed.{StrokedOn}
 use Rattle.canvas.specs.declared.Drawing.{Drawing}
 use Rattle.canvas.specs.Canvas.{regionOf, tableFor, marksOf, drawnOf, strokeOf}
-use Rattle.draw.proofs.Targeted.{Targeted, refused, followed-as, on}
+use Rattle.draw.proofs.Targeted.{Targeted, on}
 
 -- the calls by their DC's target
 pub pattern-fill-on : (b : GdiState) (dc : ℕ) (a : Area) (rop : ℕ) → Targeted (patternFill b dc a rop) b dc (patternFillOn b a (tableOf rop))
@@ -49,39 +49,34 @@ unfolding text
 text-on b us dc at = record { plan = refl }
 
 -- n units, on the surface s
-module _ (b : GdiState) (us : List ℕ) (dc : ℕ) (at : Point) {t : Target} (e : t ≡ targetOf b dc) {s : SurfaceId} {d : Dc} (f : t ≡ On s d)
+module _ (b : GdiState) (us : List ℕ) (dc : ℕ) (at : Point) {t : Target} (e : t ≡ targetOf b dc) {s : SurfaceId} {i : Site} {d : Dc} (f : t ≡ On s i d)
     {n : ℕ} (k : n ≡ unitCount us) where
-  text-by : {q : Plan} {ms : Memories} {r : Outcome} {ms′ : Memories} → textFor b us at s d ≡ q → Followed q b ms r ms′
-      → Followed (text b us dc at) b ms r ms′
-  text-by z w = on (text-on b us dc at) e f (followed-as z w)
+  pub too-many : 65535 < n → text b us dc at ≡ refuse 10 b
+  too-many l = on (text-on b us dc at) e f ∙ rw (← k, lt-leb n 65535 l)
 
-  pub too-many : (ms : Memories) → 65535 < n → Followed (text b us dc at) b ms (record { state = b; answer = Refused 10 }) ms
-  too-many ms l = text-by (rw (← k, lt-leb n 65535 l)) (refused 10 b ms)
+  pub few-enough : n ≤ 65535 → text b us dc at ≡ textOn b us n at s d
+  few-enough l = on (text-on b us dc at) e f ∙ rw (← k, le-leb n 65535 l)
 
-  pub few-enough : {ms : Memories} {r : Outcome} {ms′ : Memories} → n ≤ 65535 → Followed (textOn b us n at s d) b ms r ms′
-      → Followed (text b us dc at) b ms r ms′
-  few-enough l w = text-by (rw (← k, le-leb n 65535 l)) w
-
--- a place in a record that is lent with its memories
-pub within-lent : {b : GdiState} {n k : ℕ} {s : SurfaceId} {at : Place} → Ready b n k → Placed b s at → Within n k at
+-- a site in a record that is lent with its memories
+pub within-lent : {b : GdiState} {n k : ℕ} {s : SurfaceId} {i : Site} → Ready b n k → Placed b s i → Within n k (i .at)
 within-lent q w = rw (q .panel, q .store) (w .within)
 
--- a mark and bytes at the place that was found are the stroke's
-pub stroke-made : {b : GdiState} {s : SurfaceId} {at : Place} → Placed b s at → (g : Drawing) (us : List ℕ) (c : ℕ) {due : Bool} {r : GdiState} {ms ms′ : Memories}
-    → due ≡ marksAt at (marksOf g) → r ≡ dirtiedIf due s b → ms′ ≡ over at (drawnOf g us c (widthOf at)) ms → Stroked b (strokeOf b s g us c ∷ []) ms r ms′
+-- a mark and bytes at the site that was found are the stroke's
+pub stroke-made : {l l′ : List ℕ} {s : SurfaceId} {i : Site} → Placed (view l) s i → (g : Drawing) (us : List ℕ) (c : ℕ) {due : Bool} {ms ms′ : Memories}
+    → due ≡ marksAt (i .at) (marksOf g) → Stored l (dirtiedIf due s (view l)) l′ → ms′ ≡ over (i .at) (drawnOf g us c (widthOf (i .at))) ms → StrokedOn l (strokeOf (view l) s g us c ∷ []) ms l′ ms′
 unfolding after paintedBy dirtiedBy paintsOf
-stroke-made {b} {s} w g us c {ms = ms} m q z =
+stroke-made {l} {l′} {s} w g us c {ms = ms} m q z =
     record {
-      state = q ∙ ap (λ (t : Bool). dirtiedIf t s b) (m ∙ ap (λ (at : Place). marksAt at (marksOf g)) (w .same));
-      memories = z ∙ ap (λ (at : Place). over at (drawnOf g us c (widthOf at)) ms) (w .same);
+      numbers = subst (λ (t : Bool). Stored l (dirtiedIf t s (view l)) l′) (m ∙ ap (λ (i : Site). marksAt (i .at) (marksOf g)) (w .same)) q;
+      memories = z ∙ ap (λ (i : Site). over (i .at) (drawnOf g us c (widthOf (i .at))) ms) (w .same);
     }
 
-module _ (s : SurfaceId) (g : Drawing) (us : List ℕ) {ms : Memories} {r : GdiState} {ms′ : Memories} where
+module _ (s : SurfaceId) (g : Drawing) (us : List ℕ) {l l′ : List ℕ} {ms ms′ : Memories} where
   -- a stroke in the colour k, which the code has as c
-  pub in-colour : {b : GdiState} {c k : ℕ} → c ≡ k → Stroked b (strokeOf b s g us c ∷ []) ms r ms′ → Stroked b (strokeOf b s g us k ∷ []) ms r ms′
-  in-colour {b} e x = subst (λ (z : ℕ). Stroked b (strokeOf b s g us z ∷ []) ms r ms′) e x
+  pub in-colour : {c k : ℕ} → c ≡ k → StrokedOn l (strokeOf (view l) s g us c ∷ []) ms l′ ms′ → StrokedOn l (strokeOf (view l) s g us k ∷ []) ms l′ ms′
+  in-colour e x = subst (λ (z : ℕ). StrokedOn l (strokeOf (view l) s g us z ∷ []) ms l′ ms′) e x
 
   -- one that was made behind others is the one that was due before them
-  pub in-place : {b b′ : GdiState} {c : ℕ} → Still b b′ → Stroked b′ (strokeOf b′ s g us c ∷ []) ms r ms′ → Stroked b′ (strokeOf b s g us c ∷ []) ms r ms′
-  in-place {b′ = b′} {c = c} t x =
-      subst (λ (at : Place). Stroked b′ (record { drawing = patterned s (regionOf g us) (tableFor g) c; due = marksAt at (marksOf g) } ∷ []) ms r ms′) (t .places s) x
+  pub in-place : {b : GdiState} {c : ℕ} → Still b (view l) → StrokedOn l (strokeOf (view l) s g us c ∷ []) ms l′ ms′ → StrokedOn l (strokeOf b s g us c ∷ []) ms l′ ms′
+  in-place {c = c} t x =
+      subst (λ (at : Place). StrokedOn l (record { drawing = patterned s (regionOf g us) (tableFor g) c; due = marksAt at (marksOf g) } ∷ []) ms l′ ms′) (t .places s) x

@@ -20,11 +20,12 @@ use Rattle.text.specs.Ink.{charInk}
 use Rattle.gdi.specs.declared.GdiState.{GdiState}
 use Rattle.gdi.specs.declared.GdiObject.{GdiObject}
 use Rattle.gdi.specs.declared.GdiObject.the-variants.{Bitmap}
-use Rattle.gdi.specs.Record.{fresh, withObjects}
+use Rattle.gdi.specs.Record.{freshBitmap, fresh}
+use Rattle.gdi.specs.Updates.{withObjects}
 use Rattle.gdi.specs.Stock.{isStock}
 use Rattle.gdi.specs.Lookup.{objectAt}
 use Rattle.handles.specs.Handles.{free, firstFree, newHandle, added}
-use Rattle.plan.specs.declared.Answer.the-variants.{Handle}
+use Rattle.plan.specs.Answer.{answered}
 use Rattle.plan.specs.Plan.{refuse}
 use Rattle.plan.specs.Create.{createOf, createBitmap}
 use Rattle.p6.specs.P6.{header, digits}
@@ -126,11 +127,11 @@ unfolding added firstFree free isStock
 stock-stepped-over o = refl
 
 -- fresh bench, store of 12 bytes: bitmap 0 by 5 fits as 1 by 5
-pub bitmap-fits : createBitmap bench 0 5 .outcome .answer ≡ Handle 0xDEAD_1000
+pub bitmap-fits : createBitmap bench 0 5 .outcome .answer ≡ answered 0xDEAD_1000
 unfolding createBitmap createOf sumBelow firstFree free isStock
 bitmap-fits = refl
 
-pub bitmap-widened : objectAt (createBitmap bench 0 5 .outcome .state) 0 ≡ Bitmap (record { width = 1; height = 5; «host_dirty» = false })
+pub bitmap-widened : objectAt (createBitmap bench 0 5 .outcome .state) 0 ≡ Bitmap (freshBitmap 1 5)
 unfolding createBitmap createOf sumBelow added firstFree free isStock
 bitmap-widened = refl
 

@@ -6,18 +6,16 @@ use Prim.Native.Nat.{ℕ, zero, suc, _+_, _-_, _<_, _≤_}
 use native.Mathlib.Numerals.{add-one}
 use native.Mathlib.Omega.{arith}
 use lib.Dec.{eqb}
-use borrow.Author.Tests.{eq-eqb, ne-eqb, eqb-true, lt-ltb}
+use borrow.Author.Tests.{eq-eqb, ne-eqb, eqb-true}
 use Rattle.gdi.specs.declared.Dc.{Dc}
 use Rattle.gdi.specs.declared.Slot.{Slot}
 use Rattle.gdi.specs.declared.GdiObject.{GdiObject}
 use Rattle.gdi.specs.declared.GdiObject.the-variants.{Dc as DcOf, Bitmap, Brush, Pen, Font}
 use Rattle.gdi.specs.declared.GdiState.{GdiState}
-use Rattle.gdi.specs.declared.Spot.{Spot}
 use Rattle.gdi.specs.declared.Spot.the-variants.{Screen, Created}
 use Rattle.gdi.specs.declared.Found.{Found}
 use Rattle.gdi.specs.declared.Found.the-variants.{At, Nothing}
 use Rattle.gdi.specs.declared.DcFound.the-variants.{Is}
-use Rattle.gdi.specs.Record.{within}
 use Rattle.gdi.specs.Lookup.{handleAt, objectAt, scan, findOf, dcAt, dcFound, dcOf}
 
 -- the scan's steps, as the loop of `find` takes them
@@ -36,6 +34,12 @@ module _ (l : List Slot) (h i n : ℕ) where
 
   pub start : i ≡ 0 → scan l h 0 (n - 0) ≡ scan l h 0 n
   start z = let m : n - 0 ≡ n = omega arith in rw m
+
+-- it goes by the handles alone
+pub scan-same : (l l′ : List Slot) (h k m : ℕ) → ((j : ℕ) → handleAt l′ j ≡ handleAt l j) → scan l′ h k m ≡ scan l h k m
+unfolding scan
+scan-same l l′ h k zero e = refl
+scan-same l l′ h k (suc m) e = rw (e k, scan-same l l′ h (suc k) m e)
 
 -- the slot that is found is before the end
 pub scan-below : (l : List Slot) (h k : ℕ) {i : ℕ} (m : ℕ) → scan l h k m ≡ At i → i < k + m
@@ -60,9 +64,6 @@ scan-handle l h k (suc m) {i} e = by (eqb (handleAt l k) h) refl e (λ f. scan-h
 pub found-count : (b : GdiState) (h : ℕ) {i : ℕ} → findOf b h ≡ At i → i < b .count
 found-count b h e = omega (arith, scan-below (b .objects) h 0 (b .count) e)
 
-pub found-below : (b : GdiState) (h : ℕ) {i : ℕ} → b .count ≤ 256 → findOf b h ≡ At i → i < 256
-found-below b h le e = omega (arith, found-count b h e)
-
 -- a created DC stands in the slot of its handle
 pub dc-found : (b : GdiState) (h : ℕ) {i : ℕ} {d : Dc} → dcOf b h ≡ Is (Created i) d → (findOf b h ≡ At i) × (objectAt b i ≡ DcOf d)
 unfolding dcOf
@@ -85,11 +86,3 @@ dc-found b h {i} {d} e = by-test (eqb h 0xDEAD_0DC0) e
         → (findOf b h ≡ At i) × (objectAt b i ≡ DcOf d)
     by-test true f = let z : _≡_ {A = ℕ} 0 1 = cc in absurd (omega arith)
     by-test false f = by-found (findOf b h) refl f
-
--- the spot of a DC that is found is in the table
-pub dc-within : (b : GdiState) (h : ℕ) {p : Spot} {d : Dc} → dcOf b h ≡ Is p d → b .count ≤ 256 → within p ≡ true
-dc-within b h {p} {d} e le = by p e
-  where
-    by : (q : Spot) → dcOf b h ≡ Is q d → within q ≡ true
-    by Screen f = refl
-    by (Created i) f = lt-ltb _ _ (found-below b h le (dc-found b h f .0))

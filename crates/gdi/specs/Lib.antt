@@ -1,3 +1,4 @@
 pub mod Record
 pub mod Stock
 pub mod Lookup
+pub mod Updates

@@ -1,9 +1,8 @@
--- The bench record: fresh records, and a record with one field changed.
-use mathlib.Core.Bool.{Bool, true, false}
-use mathlib.Core.List.{List}
+-- The bench record: sizes, fresh records, vacant slots.
+use mathlib.Core.Bool.{false}
 use Prim.Native.Nat.{ℕ, _*_}
-use lib.Dec.{ltb}
-use lib.ListN.{replicate, set}
+use lib.ListN.{replicate}
+use Rattle.gdi.specs.declared.Bitmap.{Bitmap}
 use Rattle.gdi.specs.declared.Dc.{Dc}
 use Rattle.gdi.specs.declared.DcSurface.{DcSurface}
 use Rattle.gdi.specs.declared.DcSurface.the-variants.{Screen, Memory}
@@ -12,8 +11,6 @@ use Rattle.gdi.specs.declared.GdiObject.{GdiObject}
 use Rattle.gdi.specs.declared.GdiObject.the-variants.{Dc as DcOf, Bitmap as BitmapOf, Brush, Pen, Font}
 use Rattle.gdi.specs.declared.Slot.{Slot}
 use Rattle.gdi.specs.declared.GdiState.{GdiState}
-use Rattle.gdi.specs.declared.Spot.{Spot}
-use Rattle.gdi.specs.declared.Spot.the-variants.{Screen as ScreenSpot, Created}
 
 -- the bytes of w by h pixels: 2·w·h
 abbrev pub size : ℕ → ℕ → ℕ
@@ -43,6 +40,10 @@ dcOn s =
       «bk_color» = record { 0 = 0x00ff_ffff };
       «bk_transparent» = false;
     }
+
+-- a new bitmap
+abbrev pub freshBitmap : (width height : ℕ) → Bitmap
+freshBitmap w h = record { width = w; height = h; «host_dirty» = false }
 
 -- a new memory DC
 abbrev pub defaultDc : Dc
@@ -91,45 +92,3 @@ fresh panel-len store-len width height =
       count = 0;
       objects = replicate 256 vacantSlot;
     }
-
--- the record with other created objects
-abbrev pub withObjects : GdiState → (next count : ℕ) → List Slot → GdiState
-withObjects b next count l =
-    record {
-      «panel_len» = b .«panel_len»;
-      «store_len» = b .«store_len»;
-      width = b .width;
-      height = b .height;
-      «frame_counter» = b .«frame_counter»;
-      «next_handle» = next;
-      screen = b .screen;
-      «stock_dirty» = b .«stock_dirty»;
-      count = count;
-      objects = l;
-    }
-
--- the record with another screen DC
-abbrev pub withScreen : GdiState → Dc → GdiState
-withScreen b d =
-    record {
-      «panel_len» = b .«panel_len»;
-      «store_len» = b .«store_len»;
-      width = b .width;
-      height = b .height;
-      «frame_counter» = b .«frame_counter»;
-      «next_handle» = b .«next_handle»;
-      screen = d;
-      «stock_dirty» = b .«stock_dirty»;
-      count = b .count;
-      objects = b .objects;
-    }
-
--- the record with d as the DC h, which stands at a spot
-abbrev pub storeOf : GdiState → (h : ℕ) → Spot → Dc → GdiState
-storeOf b h ScreenSpot d = withScreen b d
-storeOf b h (Created i) d = withObjects b (b .«next_handle») (b .count) (set (b .objects) i (record { handle = h; object = DcOf d }))
-
--- a spot in the table
-abbrev pub within : Spot → Bool
-within ScreenSpot = true
-within (Created i) = ltb i 256

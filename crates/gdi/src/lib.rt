@@ -1,10 +1,9 @@
-// The GDI object table by value: its types, its first state, and the stock objects.
+// The types of the bench record, DCs and objects by value, and the stock objects.
 ghost use mathlib.Core.Path.{_≡_};
 ghost use mathlib.Core.Bool.{true};
-ghost use Prim.Native.Nat.{_≤_};
-ghost use Rattle.gdi.specs.Record.{dcOn, defaultDc, screenDc, vacantSlot, fresh};
+ghost use Rattle.gdi.specs.Record.{freshBitmap, dcOn, defaultDc, screenDc, vacantSlot};
+ghost use Rattle.gdi.specs.Updates.{withBitmap};
 ghost use Rattle.gdi.specs.Stock.{isStock, stockKind};
-ghost use Rattle.gdi.specs.Lookup.{kindAt};
 use color::Colorref;
 
 // The handle that the first created object gets.
@@ -98,8 +97,9 @@ pub struct Slot {
     pub object: GdiObject,
 }
 
-// The bench record: the lengths of the two lent memories, the panel, the counters, the screen DC, the stock bitmap's dirty
-// mark, and the created objects in order of creation. The first count slots hold them.
+// The bench record as definitions have it; code has it as lent numbers (crate `numbers`). The lengths of the two lent memories,
+// the panel, the counters, the screen DC, the stock bitmap's dirty mark, and the created objects in order of creation: the first
+// count slots hold them.
 pub struct GdiState {
     pub panel_len: usize,
     pub store_len: usize,
@@ -180,6 +180,41 @@ pub fn dc_on(surface: DcSurface) -> Dc
     }
 }
 
+// The record of a new bitmap.
+pub fn new_bitmap(width: u32, height: u32) -> Bitmap
+    ensures { λ r. ⌜ r ≡ freshBitmap width height ⌝ }
+{
+    Bitmap {
+        width: width,
+        height: height,
+        host_dirty: false,
+    }
+}
+
+// The DC with another bitmap selected.
+pub fn with_bitmap(d: Dc, handle: u32) -> Dc
+    ensures { λ r. ⌜ r ≡ withBitmap d handle ⌝ }
+{
+    let su = d.surface;
+    let bc = d.brush_color;
+    let pc = d.pen_color;
+    let tc = d.text_color;
+    let kc = d.bk_color;
+    Dc {
+        surface: su,
+        selected_bitmap: SelectedBitmap::Chosen(handle),
+        selected_brush: d.selected_brush,
+        selected_pen: d.selected_pen,
+        selected_font: d.selected_font,
+        brush_color: bc,
+        pen_color: pc,
+        text_color: tc,
+        text_align: d.text_align,
+        bk_color: kc,
+        bk_transparent: d.bk_transparent,
+    }
+}
+
 // The record of a new memory DC.
 pub fn default_dc() -> Dc
     ensures { λ r. ⌜ r ≡ defaultDc ⌝ }
@@ -204,27 +239,6 @@ pub fn vacant_slot() -> Slot
     }
 }
 
-// A record without created objects.
-pub fn fresh_state(panel_len: usize, store_len: usize, width: u32, height: u32) -> GdiState
-    ensures { λ r. ⌜ r ≡ fresh «panel_len» «store_len» width height ⌝ }
-{
-    let s = vacant_slot();
-    let l = [s; 256];
-    let d = screen_dc();
-    GdiState {
-        panel_len: panel_len,
-        store_len: store_len,
-        width: width,
-        height: height,
-        frame_counter: 0,
-        next_handle: GDI_HANDLE_BASE,
-        screen: d,
-        stock_dirty: false,
-        count: 0,
-        objects: l,
-    }
-}
-
 // What a stock handle names.
 pub fn stock_kind(handle: u32) -> Kind
     ensures { λ r. ⌜ r ≡ stockKind handle ⌝ }
@@ -242,24 +256,5 @@ pub fn stock_kind(handle: u32) -> Kind
         STOCK_SYSTEM_FONT => Kind::Font,
         STOCK_DEFAULT_BITMAP => Kind::Bitmap,
         _ => Kind::Other,
-    }
-}
-
-// The kind of an object, with the colour that a selection copies.
-pub fn kind_at(object: GdiObject) -> Kind
-    ensures { λ r. ⌜ r ≡ kindAt object ⌝ }
-{
-    match object {
-        GdiObject::Dc(_) => Kind::Other,
-        GdiObject::Bitmap(_) => Kind::Bitmap,
-        GdiObject::Brush(x) => {
-            let c = x.color;
-            Kind::Brush(c)
-        }
-        GdiObject::Pen(x) => {
-            let c = x.color;
-            Kind::Pen(c)
-        }
-        GdiObject::Font(_) => Kind::Font,
     }
 }

@@ -3,3 +3,4 @@ pub mod Pigeon
 pub mod Added
 pub mod Examples
 pub mod Absent
+pub mod Grown

@@ -1,20 +1,15 @@
 -- The steps of the search for a free handle, the cases of its test, and the record that appending makes. Assumes nothing.
 use mathlib.Core.Bool.{Bool, true, false}
-use mathlib.Core.List.{List, map}
+use mathlib.Core.List.{List}
 use mathlib.Core.Path.{_≡_}
 use Prim.Native.Nat.{ℕ, suc, _+_, _-_, _%_, _<_, _≤_}
 use native.Mathlib.Numerals.{add-one}
 use native.Mathlib.Omega.{arith}
-use lib.ListN.{length, set, length-map}
-use lib.Seq.{set-split}
 use borrow.Author.Tests.{eq-eqb, ne-eqb}
-use Rattle.gdi.specs.declared.GdiState.{GdiState}
 use Rattle.gdi.specs.declared.Slot.{Slot}
-use Rattle.gdi.specs.declared.GdiObject.{GdiObject}
-use Rattle.gdi.specs.Record.{withObjects}
 use Rattle.gdi.specs.Stock.{isStock}
 use Rattle.sound.specs.Sound.{absent}
-use Rattle.handles.specs.Handles.{free, ahead, firstFree, tries, addedAs}
+use Rattle.handles.specs.Handles.{free, ahead, firstFree, tries}
 
 -- the cases of the test
 module _ (l : List Slot) (n h : ℕ) where
@@ -47,12 +42,3 @@ module _ (l : List Slot) (n h i : ℕ) where
 
 pub ahead-next : (h i : ℕ) → (ahead h i + 1) % 4294967296 ≡ ahead h (i + 1)
 ahead-next h i = omega arith
-
--- an index of an array of structs, whose length a need has as that of a mapped list
-pub below-mapped : {X Y : Type 0} (f : X → Y) (l : List X) (i n : ℕ) → length (map f l) ≡ n → i < n → i < length l
-below-mapped f l i n e lt = rw (simp length-map at e) lt
-
--- the record that the code makes
-pub append-as : (b : GdiState) (h : ℕ) (o : GdiObject) {m : ℕ} → m ≡ ahead h 1 → b .count < length (b .objects)
-    → withObjects b m (b .count + 1) (set (b .objects) (b .count) (record { handle = h; object = o })) ≡ addedAs b h o
-append-as b h o e lt = rw (set-split (b .objects) (b .count) (record { handle = h; object = o }) lt, e)

@@ -7,8 +7,8 @@ use lib.ListN.{take, drop}
 use Rattle.gdi.specs.declared.GdiState.{GdiState}
 use Rattle.gdi.specs.declared.Slot.{Slot}
 use Rattle.gdi.specs.declared.GdiObject.{GdiObject}
-use Rattle.gdi.specs.Record.{withObjects}
 use Rattle.gdi.specs.Stock.{isStock}
+use Rattle.gdi.specs.Updates.{withObjects}
 use Rattle.sound.specs.Sound.{absent}
 
 -- h is not 0, stock or live, the first n slots being live

@@ -1,2 +1,1 @@
-mod Hosted
-mod Snapshots
+pub mod Hosted

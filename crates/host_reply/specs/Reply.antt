@@ -4,9 +4,8 @@ use mathlib.Core.List.{List}
 use mathlib.Core.Path.{_≡_}
 use Prim.Native.Nat.{ℕ}
 use lib.ListN.{replicate}
-use Rattle.flat.specs.Block.{bit, ObjectCoded}
-use Rattle.plan.specs.declared.Answer.{Answer}
-use Rattle.plan.specs.Answer.{Object, none, some, partsOf}
+use Rattle.numbers.specs.Block.{bit, ObjectCoded}
+use Rattle.plan.specs.Answer.{Object, none, some, Parts}
 use Rattle.host_reply.specs.declared.Reply.{Reply}
 
 -- an object's kind and its twelve numbers; 5 and zeros if there is none
@@ -19,8 +18,8 @@ abbrev pub plainReply : (refusal value : ℕ) → Bool → Reply
 plainReply n v f = record { refusal = n; value = v; flag = bit f; kind = 5; fields = replicate 12 0 }
 
 -- A reply holds an answer's parts.
-pub record Replied (a : Answer) (r : Reply) : Type 0 where
-  pub refusal : r .refusal ≡ partsOf a .number
-  pub value : r .value ≡ partsOf a .value
-  pub flag : r .flag ≡ bit (partsOf a .flag)
-  pub object : ObjectReplied (partsOf a .object) (r .kind) (r .fields)
+pub record Replied (a : Parts) (r : Reply) : Type 0 where
+  pub refusal : r .refusal ≡ a .number
+  pub value : r .value ≡ a .value
+  pub flag : r .flag ≡ bit (a .flag)
+  pub object : ObjectReplied (a .object) (r .kind) (r .fields)

@@ -1,5 +1,6 @@
 // An answer as numbers, for hosts in other languages.
 ghost use mathlib.Core.Path.{_≡_};
+ghost use Rattle.plan.specs.Answer.{partsOf};
 ghost use Rattle.host_reply.specs.Reply.{plainReply, Replied};
 use plan::Answer;
 
@@ -24,7 +25,7 @@ fn plain(refusal: u32, value: u32, flag: bool) -> Reply
     Reply {
         refusal: refusal,
         value: value,
-        flag: flat::flag_number(flag),
+        flag: numbers::flag_number(flag),
         kind: NO_OBJECT,
         fields: [0; 12],
     }
@@ -32,7 +33,7 @@ fn plain(refusal: u32, value: u32, flag: bool) -> Reply
 
 // An answer as numbers.
 pub fn reply_of(answer: Answer) -> Reply
-    ensures { λ r. ⌜ Replied answer r ⌝ }
+    ensures { λ r. ⌜ Replied (partsOf answer) r ⌝ }
 {
     match answer {
         Answer::Refused(no) => plain(no, 0, false),
@@ -40,7 +41,7 @@ pub fn reply_of(answer: Answer) -> Reply
         Answer::Deleted(f) => plain(0, 0, f),
         Answer::Removed(o) => {
             let mut fields = [0u32; 12];
-            let kind = flat_put::put_object(&mut fields, o);
+            let kind = encode::put_object(&mut fields, o);
             Reply {
                 refusal: 0,
                 value: 0,

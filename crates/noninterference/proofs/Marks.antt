@@ -18,6 +18,7 @@ use Rattle.gdi.specs.Stock.{isStock}
 use Rattle.gdi.specs.Lookup.{findOf}
 use Rattle.sound.specs.Sound.{used}
 use Rattle.ready.specs.Ready.{commonRefusal}
+use Rattle.place.specs.declared.Site.{Site}
 use Rattle.place.specs.declared.SurfaceId.{SurfaceId}
 use Rattle.place.specs.declared.SurfaceId.the-variants.{Panel, Bitmap}
 use Rattle.place.specs.declared.Target.the-variants.{On}
@@ -27,8 +28,7 @@ use Rattle.handles.specs.Handles.{newHandle}
 use Rattle.paint.specs.Paint.{draw, closing}
 use Rattle.paint.specs.Marks.{Marks, markedBy, marked, Keeps, Exactly, Unmarks, everywhere}
 use Rattle.paint.proofs.After.{ruled, draw-exact, two-exact, blank-exact, close-exact}
-use Rattle.plan.specs.declared.Answer.{Answer}
-use Rattle.plan.specs.declared.Answer.the-variants.{Refused, Handle}
+use Rattle.plan.specs.Answer.{Parts, refused, answered}
 use Rattle.plan.specs.declared.Area.{Area}
 use Rattle.plan.specs.declared.Point.{Point}
 use Rattle.plan.specs.declared.Call.{Call}
@@ -87,7 +87,7 @@ module _ (b : GdiState) (n k : ℕ) (us : List ℕ) (m : Marks) where
       by true f = unpainted-plan c {p = act c us b} (rw f) z
       by false f = unpainted-plan c {p = refuse (commonRefusal b n k) b} (rw f) refl
 
-  module _ (dc : ℕ) (a : Area) (s : SurfaceId) (d : Dc) (e : targetOf b dc ≡ On s d) where
+  module _ (dc : ℕ) (a : Area) (s : SurfaceId) (i : Site) (d : Dc) (e : targetOf b dc ≡ On s i d) where
     fill-plan : (rop : ℕ) → patternFill b dc a rop ≡ patternFillOn b a (tableOf rop) s d
     unfolding patternFill
     fill-plan rop = rw e
@@ -112,20 +112,20 @@ module _ (b : GdiState) (n k : ℕ) (us : List ℕ) (m : Marks) where
           is : blit b dc a src p rop ≡ patternFill b dc a rop
           is = unfold blit in rw f
 
-      blit-marks : (q : SurfaceId) (o : Dc) → usesSrc (tableOf rop) ≡ true → targetOf b src ≡ On q o
+      blit-marks : (q : SurfaceId) (j : Site) (o : Dc) → usesSrc (tableOf rop) ≡ true → targetOf b src ≡ On q j o
           → Exactly m (marksBy b n k us m (Blit dc a src p rop)) s (blitBox (whereIs b q) a p) (λ x y. byDestination m rop s x y ⊎ bySource m rop q a p x y)
       unfolding act paintsOf marked
-      blit-marks q o f g =
+      blit-marks q j o f g =
           by-plan (Blit dc a src p rop) (accepted-plan (Blit dc a src p rop) z ∙ is)
           (draw-exact m (blitted s q (whereIs b q) a p (tableOf rop) _))
         where
           is : blit b dc a src p rop ≡ blitOn b a p (tableOf rop) s d q
           is = unfold blit in rw (f, e, g)
 
-  text-marks : (dc : ℕ) (at : Point) (s : SurfaceId) (d : Dc) → number b n k us (Text dc at) ≡ 0 → targetOf b dc ≡ On s d
+  text-marks : (dc : ℕ) (at : Point) (s : SurfaceId) (i : Site) (d : Dc) → number b n k us (Text dc at) ≡ 0 → targetOf b dc ≡ On s i d
       → Unmarks m (marksBy b n k us m (Text dc at)) s (textInk us (unitCount us) (at .x) (at .y))
   unfolding act paintsOf marked
-  text-marks dc at s d z e = by-plan (Text dc at) (accepted-plan (Text dc at) z ∙ is) (solid-exact m s _ _)
+  text-marks dc at s i d z e = by-plan (Text dc at) (accepted-plan (Text dc at) z ∙ is) (solid-exact m s _ _)
     where
       by : (t : Bool) → numberOf (cond t (textOn b us (unitCount us) at s d) (refuse 10 b)) ≡ 0 → cond t (textOn b us (unitCount us) at s d) (refuse 10 b) ≡ textOn b us (unitCount us) at s d
       by true z = refl
@@ -153,28 +153,28 @@ module _ (b : GdiState) (n k : ℕ) (us : List ℕ) (m : Marks) where
       is = shown ∙ by (ltb 4096 w || ltb 4096 h) (ltb (b .«panel_len») (size w h)) (ap numberOf (sym (accepted-plan (Resize w h) z ∙ shown)) ∙ z)
 
   -- a new object, by the handle that is answered: a refusal answers none
-  refused-no-handle : (i h : ℕ) {A : Type 0} → Refused i ≡ Handle h → A
-  refused-no-handle i h e = let z : _≡_ {A = ℕ} 0 1 = cc in absurd (omega arith)
+  refused-no-handle : (i h : ℕ) {A : Type 0} → (i ≡ 0 → ⊥) → refused i ≡ answered h → A
+  refused-no-handle i h ne e = absurd (ne (ap (λ (a : Parts). a .number) e))
 
   module _ (h : ℕ) where
     abbrev UnmarksNew : Plan → Type 0
-    UnmarksNew p = p .outcome .answer ≡ Handle h → Unmarks m (marked (p .paint) m) (Bitmap h) everywhere
+    UnmarksNew p = p .outcome .answer ≡ answered h → Unmarks m (marked (p .paint) m) (Bitmap h) everywhere
 
     create-marks : (o : GdiObject) → UnmarksNew (createOf b o)
     unfolding createOf marked
     create-marks o = by (leb 256 (b .count)) (ltb (b .«store_len») (used b + bytesOf o))
       where
         by : (t u : Bool) → UnmarksNew (cond t (refuse 5 b) (cond u (refuse 7 b) (made b o)))
-        by true u e = refused-no-handle 5 h e
-        by false true e = refused-no-handle 7 h e
-        by false false e = let q : newHandle b ≡ h = cc in rw (← q) (blank-exact m _ _ _ (Bitmap (newHandle b)))
+        by true u e = refused-no-handle 5 h (λ z. omega arith) e
+        by false true e = refused-no-handle 7 h (λ z. omega arith) e
+        by false false e = let q : newHandle b ≡ h = ap (λ (a : Parts). a .value) e in rw (← q) (blank-exact m _ _ _ (Bitmap (newHandle b)))
 
     bitmap-marks : (w v : ℕ) → UnmarksNew (createBitmap b w v)
     unfolding createBitmap
     bitmap-marks w v = by (ltb 4096 w || ltb 4096 v)
       where
         by : (t : Bool) → UnmarksNew (cond t (refuse 6 b) (createOf b (newBitmap w v)))
-        by true e = refused-no-handle 6 h e
+        by true e = refused-no-handle 6 h (λ z. omega arith) e
         by false e = create-marks (newBitmap w v) e
 
     act-created : {c : Call} → Creates c → UnmarksNew (act c us b)
@@ -185,16 +185,16 @@ module _ (b : GdiState) (n k : ℕ) (us : List ℕ) (m : Marks) where
     act-created pen = create-marks _
     act-created font = create-marks _
 
-    created-marks : (c : Call) → Creates c → plan c us b n k .outcome .answer ≡ Handle h → Unmarks m (marksBy b n k us m c) (Bitmap h) everywhere
+    created-marks : (c : Call) → Creates c → plan c us b n k .outcome .answer ≡ answered h → Unmarks m (marksBy b n k us m c) (Bitmap h) everywhere
     unfolding plan marksAfter
-    created-marks c i = by (eqb (commonRefusal b n k) 0)
+    created-marks c i = by (eqb (commonRefusal b n k) 0) refl
       where
-        by : (t : Bool) → UnmarksNew (cond t (act c us b) (refuse (commonRefusal b n k) b))
-        by true e = act-created i e
-        by false e = refused-no-handle (commonRefusal b n k) h e
+        by : (t : Bool) → eqb (commonRefusal b n k) 0 ≡ t → UnmarksNew (cond t (act c us b) (refuse (commonRefusal b n k) b))
+        by true f e = act-created i e
+        by false f e = refused-no-handle (commonRefusal b n k) h (eqb-false (commonRefusal b n k) 0 f) e
 
     -- an object that is deleted or removed, or stays
-    module _ (stock : Answer) (answer : ℕ → Answer) (none : Answer) where
+    module _ (stock : Parts) (answer : ℕ → Parts) (none : Parts) where
       goes-plan : (i : ℕ) → isStock h ≡ false → findOf b h ≡ At i → goes stock answer none b h .paint ≡ closing b h i
       unfolding goes
       goes-plan i e f = rw (e, f)
@@ -228,13 +228,13 @@ module _ (b : GdiState) (n k : ℕ) (us : List ℕ) (m : Marks) where
   unfolding act
   exact-marks =
       record {
-        rectangle = λ dc a s d z e. rectangle-marks dc a s d e z;
+        rectangle = λ dc a s i d z e. rectangle-marks dc a s i d e z;
         text = text-marks;
         panel-fill = λ c z. unfold paintsOf marked in by-plan (PanelFill c) (accepted-plan (PanelFill c) z) (solid-exact m Panel everywhere (c .0));
         resize = resize-marks;
-        pattern-fill = λ dc a rop s d z e. fill-marks dc a s d e rop z;
-        blit = λ dc a src p rop s q d o z u e f. blit-marks dc a s d e src p rop z q o u f;
-        blit-ignoring = λ dc a src p rop s d z u e. ignoring-marks dc a s d e src p rop z u;
+        pattern-fill = λ dc a rop s i d z e. fill-marks dc a s i d e rop z;
+        blit = λ dc a src p rop s q i j d o z u e f. blit-marks dc a s i d e src p rop z q j o u f;
+        blit-ignoring = λ dc a src p rop s i d z u e. ignoring-marks dc a s i d e src p rop z u;
         refused = λ c ne. unpainted-plan c (refusals-keep c us b n k ne) refl;
         set = λ c i. unpainted c (act-set i);
         not-resized = λ w h e. unpainted (Resize w h) (not-resized w h e);

@@ -18,7 +18,7 @@ use Rattle.sound.specs.Sound.{objectFits, used}
 use Rattle.ready.proofs.Ready.{ready, looks}
 use Rattle.plan.specs.declared.Call.{Call}
 use Rattle.plan.specs.declared.Call.the-variants.{CreateMemoryDc, CreateCompatibleBitmap, CreateSolidBrush, CreatePen, CreateFont, Delete, Remove, SelectInto, SetTextColor, SetTextAlign, SetBkColor, SetBkMode, PatternFill, Rectangle, Text, PanelFill, Resize, Blit}
-use Rattle.plan.specs.declared.Answer.{Answer}
+use Rattle.plan.specs.Answer.{Parts}
 use Rattle.paint.specs.Memories.{Memories}
 use Rattle.paint.specs.Paint.{after}
 use Rattle.plan.specs.Plan.{Plan, told, refuse}
@@ -50,7 +50,7 @@ bitmap-safe b w h = by (ltb 4096 w || ltb 4096 h) refl
     by true e = unchanged b
     by false e = let s = neither (ltb 4096 w) (ltb 4096 h) e in create-safe b (newBitmap w h) (bitmap-fits w h (ltb-false 4096 w (s .0)) (ltb-false 4096 h (s .1)))
 
-goes-safe : (stock : Answer) (gone : ℕ → Answer) (none : Answer) (b : GdiState) (h : ℕ) → SafePlan b (goes stock gone none b h)
+goes-safe : (stock : Parts) (gone : ℕ → Parts) (none : Parts) (b : GdiState) (h : ℕ) → SafePlan b (goes stock gone none b h)
 unfolding goes
 goes-safe stock gone none b h = by (isStock h) refl (findOf b h) refl
   where

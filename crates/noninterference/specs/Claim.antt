@@ -10,10 +10,9 @@ use Rattle.ready.specs.Ready.{commonRefusal}
 use Rattle.place.specs.declared.SurfaceId.{SurfaceId}
 use Rattle.place.specs.Place.{whereIs}
 use Rattle.plan.specs.declared.Call.{Call}
-use Rattle.plan.specs.declared.Outcome.{Outcome}
 use Rattle.paint.specs.Memories.{Memories, inside, colourAt}
 use Rattle.paint.specs.Paint.{after}
-use Rattle.plan.specs.Plan.{Plan}
+use Rattle.plan.specs.Plan.{Outcome, Plan}
 use Rattle.plan.specs.Calls.{plan, planOf}
 use Rattle.paint.specs.Marks.{Marks, marked}
 
@@ -38,7 +37,7 @@ pub record Invocation : Type 0 where
 abbrev pub planFor : Invocation → Bench → Plan
 planFor c s = planOf (c .call) (c .units) (s .state) (s .memories)
 
--- what a call answers, with the record after it; and the bench after it: what `Performed` says of the code
+-- what a call answers, with the record after it; and the bench after it: `performed-step` has it of the code
 abbrev pub answer : Invocation → Bench → Outcome
 answer c s = planFor c s .outcome
 

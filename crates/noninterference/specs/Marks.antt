@@ -15,12 +15,13 @@ use Rattle.gdi.specs.declared.Dc.{Dc}
 use Rattle.gdi.specs.declared.Found.the-variants.{At, Nothing}
 use Rattle.gdi.specs.Stock.{isStock}
 use Rattle.gdi.specs.Lookup.{findOf}
+use Rattle.place.specs.declared.Site.{Site}
 use Rattle.place.specs.declared.SurfaceId.{SurfaceId}
 use Rattle.place.specs.declared.SurfaceId.the-variants.{Panel, Bitmap}
 use Rattle.place.specs.declared.Target.the-variants.{On}
 use Rattle.place.specs.Place.{whereIs, targetOf}
 use Rattle.paint.specs.Marks.{Marks, Keeps, Exactly, Unmarks, everywhere}
-use Rattle.plan.specs.declared.Answer.the-variants.{Handle}
+use Rattle.plan.specs.Answer.{answered}
 use Rattle.plan.specs.declared.Area.{Area}
 use Rattle.plan.specs.declared.Point.{Point}
 use Rattle.plan.specs.declared.Call.{Call}
@@ -68,22 +69,22 @@ module _ (b : GdiState) (panel-len store-len : ℕ) (units : List ℕ) where
   -- For every call and every outcome, what is drawn, and which pixels are marked afterwards.
   pub record ExactMarks (m : Marks) : Type 0 where
     -- a fill without a code, outline, ink, panel fill and an effective resize unmark what they draw
-    pub rectangle : (dc : ℕ) (a : Area) (s : SurfaceId) (d : Dc) → number (Rectangle dc a) ≡ 0 → targetOf b dc ≡ On s d
+    pub rectangle : (dc : ℕ) (a : Area) (s : SurfaceId) (i : Site) (d : Dc) → number (Rectangle dc a) ≡ 0 → targetOf b dc ≡ On s i d
         → Unmarks m (marksBy m (Rectangle dc a)) s (λ x y. boxOf a x y || rimOf a x y)
-    pub text : (dc : ℕ) (at : Point) (s : SurfaceId) (d : Dc) → number (Text dc at) ≡ 0 → targetOf b dc ≡ On s d
+    pub text : (dc : ℕ) (at : Point) (s : SurfaceId) (i : Site) (d : Dc) → number (Text dc at) ≡ 0 → targetOf b dc ≡ On s i d
         → Unmarks m (marksBy m (Text dc at)) s (textInk units (unitCount units) (at .x) (at .y))
     pub panel-fill : (c : Rgb565) → number (PanelFill c) ≡ 0 → Unmarks m (marksBy m (PanelFill c)) Panel everywhere
     pub resize : (w h : ℕ) → number (Resize w h) ≡ 0 → noEffect b w h ≡ false → Unmarks m (marksBy m (Resize w h)) Panel everywhere
     -- under a raster code a drawn pixel is marked afterwards exactly if the code uses D and the pixel was marked
-    pub pattern-fill : (dc : ℕ) (a : Area) (rop : ℕ) (s : SurfaceId) (d : Dc) → number (PatternFill dc a rop) ≡ 0 → targetOf b dc ≡ On s d
+    pub pattern-fill : (dc : ℕ) (a : Area) (rop : ℕ) (s : SurfaceId) (i : Site) (d : Dc) → number (PatternFill dc a rop) ≡ 0 → targetOf b dc ≡ On s i d
         → Exactly m (marksBy m (PatternFill dc a rop)) s (boxOf a) (byDestination m rop s)
     -- or the call is a blit whose code uses S and the source pixel taken for it was marked before the call
-    pub blit : (dc : ℕ) (a : Area) (src : ℕ) (p : Point) (rop : ℕ) (s q : SurfaceId) (d e : Dc) → number (Blit dc a src p rop) ≡ 0
-        → usesSrc (tableOf rop) ≡ true → targetOf b dc ≡ On s d → targetOf b src ≡ On q e
+    pub blit : (dc : ℕ) (a : Area) (src : ℕ) (p : Point) (rop : ℕ) (s q : SurfaceId) (i j : Site) (d e : Dc) → number (Blit dc a src p rop) ≡ 0
+        → usesSrc (tableOf rop) ≡ true → targetOf b dc ≡ On s i d → targetOf b src ≡ On q j e
         → Exactly m (marksBy m (Blit dc a src p rop)) s (blitBox (whereIs b q) a p) (λ x y. byDestination m rop s x y ⊎ bySource m rop q a p x y)
     -- a blit whose code ignores S is a pattern fill
-    pub blit-ignoring : (dc : ℕ) (a : Area) (src : ℕ) (p : Point) (rop : ℕ) (s : SurfaceId) (d : Dc) → number (Blit dc a src p rop) ≡ 0
-        → usesSrc (tableOf rop) ≡ false → targetOf b dc ≡ On s d
+    pub blit-ignoring : (dc : ℕ) (a : Area) (src : ℕ) (p : Point) (rop : ℕ) (s : SurfaceId) (i : Site) (d : Dc) → number (Blit dc a src p rop) ≡ 0
+        → usesSrc (tableOf rop) ≡ false → targetOf b dc ≡ On s i d
         → Exactly m (marksBy m (Blit dc a src p rop)) s (boxOf a) (byDestination m rop s)
     -- pixels not drawn and refused calls keep marks: a selection, a setting, a resize without effect and a deletion or removal of
     -- a stock or absent handle draw no pixel
@@ -96,5 +97,5 @@ module _ (b : GdiState) (panel-len store-len : ℕ) (units : List ℕ) where
     pub deleted : (h i : ℕ) → number (Delete h) ≡ 0 → isStock h ≡ false → findOf b h ≡ At i → Unmarks m (marksBy m (Delete h)) (Bitmap h) everywhere
     pub removed : (h i : ℕ) → number (Remove h) ≡ 0 → isStock h ≡ false → findOf b h ≡ At i → Unmarks m (marksBy m (Remove h)) (Bitmap h) everywhere
     -- a new bitmap has none
-    pub created : (c : Call) (h : ℕ) → Creates c → plan c units b panel-len store-len .outcome .answer ≡ Handle h
+    pub created : (c : Call) (h : ℕ) → Creates c → plan c units b panel-len store-len .outcome .answer ≡ answered h
         → Unmarks m (marksBy m c) (Bitmap h) everywhere

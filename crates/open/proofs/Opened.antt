@@ -9,9 +9,10 @@ use lib.ListN.{length}
 use borrow.Author.Tests.{ne-eqb, le-leb, lt-leb, leb-true}
 use Rattle.laws.proofs.Sum.{sum-none}
 use Rattle.surface.specs.Refusal.{side}
-use Rattle.gdi.specs.declared.GdiState.{GdiState}
 use Rattle.gdi.specs.Record.{size, bytesOf, fresh}
 use Rattle.gdi.specs.Lookup.{objectAt}
+use Rattle.numbers.specs.Layout.{recordSize}
+use Rattle.numbers.specs.View.{Stored}
 use Rattle.sound.specs.Sound.{limit, isSound}
 use Rattle.sound.proofs.Bytes.{area}
 use Rattle.sound.proofs.Sound.{whole}
@@ -19,7 +20,7 @@ use Rattle.memory.specs.Gap.{blanked}
 use Rattle.ready.specs.Ready.{commonRefusal}
 use Rattle.ready.proofs.Ready.{looks}
 use Rattle.paint.specs.Memories.{Memories, memories}
-use Rattle.plan.specs.Open.{openRefusal, OpenedBy}
+use Rattle.plan.specs.Open.{openRefusal, openNumber, Opened}
 
 -- the refusal's cases, n and k being the lengths of panel memory and store
 module _ (w h n k : ℕ) where
@@ -111,12 +112,21 @@ pub refused-unsound : isSound (fresh 0 0 0 0) ≡ false
 unfolding isSound
 refused-unsound = refl
 
--- from the steps to the answer
-module _ (w h : ℕ) (ms : Memories) (no₀ : ℕ) (e : no₀ ≡ openRefusal w h (length (ms .panel)) (length (ms .store))) where
-  pub refused : {s : GdiState} → (no₀ ≡ 0 → ⊥) → s ≡ fresh 0 0 0 0 → OpenedBy w h ms (record { state = s; refusal = no₀ }) ms
-  refused ne f = record { opened = rw (← e, ne-eqb _ _ ne, f); panel = rw (← e, ne-eqb _ _ ne); store = rw (← e, ne-eqb _ _ ne) }
+-- from the steps to the answer: numbers that no record fits, a refusal, and an accepted open
+pub misfit : (w h : ℕ) (l : List ℕ) (ms : Memories) → (length l ≡ recordSize → ⊥) → Opened w h l ms 9 l ms
+misfit w h l ms ne =
+    record { answer = rw (ne-eqb _ _ ne); numbers = λ e. absurd (ne e); kept = λ x. refl; panel = refl; store = refl }
 
-  pub opened : {s : GdiState} {p q : List ℕ} → no₀ ≡ 0 → p ≡ blanked (ms .panel) 0 (size w h) → q ≡ blanked (ms .store) 0 2
-      → length p ≡ length (ms .panel) → length q ≡ length (ms .store) → s ≡ fresh (length p) (length q) w h
-      → OpenedBy w h ms (record { state = s; refusal = 0 }) (memories p q)
-  opened z f g lp lq r = record { opened = rw (← e, z, r, lp, lq); panel = rw (← e, z) f; store = rw (← e, z) g }
+module _ (w h : ℕ) (l : List ℕ) (ms : Memories) (long : length l ≡ recordSize) (no₀ : ℕ) (e : no₀ ≡ openRefusal w h (length (ms .panel)) (length (ms .store))) where
+  answer : no₀ ≡ openNumber (length l) w h (length (ms .panel)) (length (ms .store))
+  answer = rw (long) e
+
+  pub refused : {l′ : List ℕ} → (no₀ ≡ 0 → ⊥) → Stored l (fresh 0 0 0 0) l′ → Opened w h l ms no₀ l′ ms
+  refused ne s =
+      record { answer = answer; numbers = λ x. rw (ne-eqb _ _ ne) s; kept = λ x. absurd (x long); panel = rw (ne-eqb _ _ ne); store = rw (ne-eqb _ _ ne) }
+
+  pub opened : {l′ p q : List ℕ} → no₀ ≡ 0 → p ≡ blanked (ms .panel) 0 (size w h) → q ≡ blanked (ms .store) 0 2
+      → length p ≡ length (ms .panel) → length q ≡ length (ms .store) → Stored l (fresh (length p) (length q) w h) l′
+      → Opened w h l ms 0 l′ (memories p q)
+  opened z f g lp lq s =
+      record { answer = sym z ∙ answer; numbers = λ x. rw (← lp, ← lq) s; kept = λ x. absurd (x long); panel = f; store = g }

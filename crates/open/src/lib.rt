@@ -1,8 +1,26 @@
-// Open: a fresh bench on two lent memories.
+// Open: a fresh bench on two lent memories, its record in lent numbers.
+ghost use mathlib.Core.List.{[], _∷_};
 ghost use mathlib.Core.Path.{_≡_};
+ghost use lib.ListN.{length};
+ghost use Rattle.gdi.specs.Record.{fresh};
+ghost use Rattle.numbers.specs.Layout.{recordSize};
+ghost use Rattle.numbers.specs.View.{Stored};
 ghost use Rattle.paint.specs.Memories.{memories};
-ghost use Rattle.plan.specs.Open.{openRefusal, OpenedBy};
-use plan::Opened;
+ghost use Rattle.plan.specs.Open.{openRefusal, Opened};
+use gdi::GDI_HANDLE_BASE;
+use numbers::COUNT;
+use numbers::FRAMES_HIGH;
+use numbers::FRAMES_LOW;
+use numbers::HEIGHT;
+use numbers::NEXT_HANDLE;
+use numbers::PANEL_LEN;
+use numbers::RECORD;
+use numbers::SCREEN;
+use numbers::SLOTS;
+use numbers::STOCK_DIRTY;
+use numbers::STORE_LEN;
+use numbers::WIDTH;
+use ready::UNSOUND_RECORD;
 use surface::BAD_SIDE;
 
 // The refusal of a memory above the limit.
@@ -12,7 +30,7 @@ pub const TOO_LONG: u32 = 8;
 pub const TOO_SHORT: u32 = 7;
 
 // The number with which an open is refused, 0 if it is not.
-pub fn refusal(width: u32, height: u32, panel_len: usize, store_len: usize) -> u32
+fn refusal(width: u32, height: u32, panel_len: usize, store_len: usize) -> u32
     ensures { λ r. ⌜ r ≡ openRefusal width height «panel_len» «store_len» ⌝ }
 {
     if surface::is_side(width) {
@@ -35,24 +53,48 @@ pub fn refusal(width: u32, height: u32, panel_len: usize, store_len: usize) -> u
     BAD_SIDE
 }
 
-// Opens a bench with a panel of these sides. Accepted, the panel and the stock pixel are black, and no other byte changes.
-pub fn open(panel: &mut [u8], store: &mut [u8], width: u32, height: u32) -> Opened
-    ensures { λ r. ⌜ OpenedBy width height (memories (now (panel .entry)) (now (store .entry))) r (memories (now (panel .exit)) (now (store .exit))) ⌝ }
+// Opens a bench with a panel of these sides. Accepted, the panel and the stock pixel are black, and no other byte changes. The
+// number with which it is refused, 0 if it is not; numbers that no record fits are refused with 9.
+pub fn open(l: &mut [u32], panel: &mut [u8], store: &mut [u8], width: u32, height: u32) -> u32
+    ensures { λ r. ⌜ Opened width height (now (l .entry)) (memories (now (panel .entry)) (now (store .entry))) r (now (l .exit)) (memories (now (panel .exit)) (now (store .exit))) ⌝ }
 {
+    if l.len() != RECORD {
+        return UNSOUND_RECORD;
+    }
     let no = refusal(width, height, panel.len(), store.len());
     if no != 0 {
-        let s = gdi::fresh_state(0, 0, 0, 0);
-        return Opened {
-            state: s,
-            refusal: no,
-        };
+        put_fresh(l, 0, 0, 0, 0);
+        return no;
     }
     let n = 2 * ((width as usize) * (height as usize));
     memory::zero(panel, 0, n);
     memory::zero(store, 0, 2);
-    let s = gdi::fresh_state(panel.len(), store.len(), width, height);
-    Opened {
-        state: s,
-        refusal: 0,
-    }
+    put_fresh(l, panel.len() as u32, store.len() as u32, width, height);
+    0
+}
+
+// Puts a record without created objects. The numbers past its screen DC are kept.
+fn put_fresh(l: &mut [u32], panel_len: u32, store_len: u32, width: u32, height: u32)
+    requires { ⌜ length (now l) ≡ recordSize ⌝ }
+    ensures { λ _. ⌜ Stored (now (l .entry)) (fresh «panel_len» «store_len» width height) (now (l .exit)) ⌝ }
+{
+    put_head(&mut l[0..SCREEN], panel_len, store_len, width, height);
+    let d = gdi::screen_dc();
+    encode::put_dc(&mut l[SCREEN..SLOTS], d);
+}
+
+// Puts the numbers in front of the screen DC.
+fn put_head(l: &mut [u32], panel_len: u32, store_len: u32, width: u32, height: u32)
+    requires { ⌜ length (now l) ≡ 9 ⌝ }
+    ensures { λ _. ⌜ now (l .exit) ≡ «panel_len» ∷ «store_len» ∷ width ∷ height ∷ 0 ∷ 0 ∷ 0xDEAD_1000 ∷ 0 ∷ 0 ∷ [] ⌝ }
+{
+    l[PANEL_LEN] = panel_len;
+    l[STORE_LEN] = store_len;
+    l[WIDTH] = width;
+    l[HEIGHT] = height;
+    l[FRAMES_LOW] = 0;
+    l[FRAMES_HIGH] = 0;
+    l[NEXT_HANDLE] = GDI_HANDLE_BASE;
+    l[STOCK_DIRTY] = 0;
+    l[COUNT] = 0;
 }

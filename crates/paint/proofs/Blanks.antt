@@ -21,6 +21,7 @@ use Rattle.gdi.specs.declared.GdiObject.the-variants.{Dc as DcOf, Bitmap as Bit
 use Rattle.gdi.specs.Record.{size, bytesOf}
 use Rattle.gdi.specs.Stock.{isStock, stockBitmap}
 use Rattle.gdi.specs.Lookup.{handleAt, objectAt}
+use Rattle.gdi.specs.Updates.{withStoreLen}
 use Rattle.sound.specs.Sound.{startOf, used, isSound}
 use Rattle.sound.proofs.Sound.{parts, whole}
 use Rattle.sound.proofs.Bytes.{start-none}
@@ -156,19 +157,7 @@ module _ (b : GdiState) (o : GdiObject) (sound : isSound b ≡ true) (h : ℕ) w
 
 -- every surface ends where the free part of the store begins: it lies in the store cut there
 abbrev cut : GdiState → GdiState
-cut b =
-    record {
-      «panel_len» = b .«panel_len»;
-      «store_len» = used b;
-      width = b .width;
-      height = b .height;
-      «frame_counter» = b .«frame_counter»;
-      «next_handle» = b .«next_handle»;
-      screen = b .screen;
-      «stock_dirty» = b .«stock_dirty»;
-      count = b .count;
-      objects = b .objects;
-    }
+cut b = withStoreLen b (used b)
 
 cut-sound : (b : GdiState) → isSound b ≡ true → isSound (cut b) ≡ true
 cut-sound b sound =

@@ -1,11 +1,10 @@
--- The cases of panel fill and resize, each done as its plan says. Assumes nothing.
-use mathlib.Core.Bool.{Bool, true, false, _&&_, _||_}
+-- The cases of panel fill and resize, each as its plan says. Assumes nothing.
+use mathlib.Core.Bool.{Bool, true, false, _&&_}
 use mathlib.Core.List.{List}
-use mathlib.Core.Path.{_≡_, sym, _∙_, ap}
+use mathlib.Core.Path.{_≡_, refl, sym, _∙_, ap}
 use Prim.Native.Nat.{ℕ, _+_, _*_, _-_, _≤_, _<_}
 use native.Mathlib.Nat.{mul-le-mul}
 use native.Mathlib.Omega.{arith}
-use lib.Dec.{eqb}
 use lib.ListN.{length}
 use borrow.Author.Tests.{le-ltb, lt-ltb}
 use Rattle.laws.specs.Interval.{between}
@@ -18,20 +17,22 @@ use Rattle.rop3.specs.Rop3.{applied}
 use Rattle.rop3.proofs.Codes.{applied-pattern}
 use Rattle.gdi.specs.declared.GdiState.{GdiState}
 use Rattle.gdi.specs.Record.{size}
+use Rattle.gdi.specs.Updates.{withSides}
+use Rattle.numbers.specs.View.{view, Stored}
 use Rattle.sound.specs.Sound.{isSound}
 use Rattle.sound.proofs.Sound.{parts}
 use Rattle.sound.proofs.Bytes.{area as sides-area}
 use Rattle.memory.specs.Gap.{blanked}
 use Rattle.place.specs.declared.SurfaceId.the-variants.{Panel}
 use Rattle.dirty.specs.Dirty.{dirtied, dirtiedIf}
-use Rattle.plan.specs.declared.Answer.{Answer}
-use Rattle.plan.specs.declared.Answer.the-variants.{Refused, Drawn}
 use Rattle.paint.specs.Memories.{memories}
 use Rattle.paint.specs.Paint.{paintedBy, after}
-use Rattle.plan.specs.Plan.{Plan, told, refuse}
+use Rattle.plan.specs.Answer.{done}
+use Rattle.plan.specs.Plan.{told, refuse}
 use Rattle.plan.specs.Stroke.{dirtiedBy, paintsOf}
-use Rattle.plan.specs.Panel.{panelFill, withSides, resized, resize}
-use Rattle.plan.specs.Calls.{DoneOnPanel}
+use Rattle.plan.specs.Panel.{panelFill, resized, noEffect, resize}
+use Rattle.plan.specs.Followed.{Followed}
+use Rattle.plan.proofs.Followed.{acceptance}
 
 -- the pixels of sides in their limit
 pub area : {w h : ℕ} → w ≤ 4096 → h ≤ 4096 → w * h ≤ 16777216
@@ -57,59 +58,41 @@ whole-panel m n c fits small =
     ∙ sym (part-painted (λ _. true) new m 0 n (omega arith))
 
 -- panel fill
-pub filled : (b : GdiState) (panel : List ℕ) (c : ℕ) → isSound b ≡ true → length panel ≡ b .«panel_len» → c < 65536
-    → {a : GdiState} → a ≡ dirtied b Panel → {l : List ℕ} → l ≡ painted (between 0 (0 + b .width * b .height)) (λ _. c) panel
-    → DoneOnPanel (panelFill b c) b panel (record { state = a; answer = Drawn }) l
+pub filled : (l : List ℕ) (panel : List ℕ) (c : ℕ) → isSound (view l) ≡ true → length panel ≡ view l .«panel_len» → c < 65536
+    → {l′ panel′ : List ℕ} → Stored l (dirtied (view l) Panel) l′ → panel′ ≡ painted (between 0 (0 + view l .width * view l .height)) (λ _. c) panel
+    → (store : List ℕ) → Followed (panelFill (view l) c) l (memories panel store) done l′ (memories panel′ store)
 unfolding after paintedBy dirtiedBy paintsOf dirtiedIf
-filled b panel c sound len small marked bytes =
-    let fits : 2 * (b .width * b .height) ≤ length panel = omega (arith, panel-fits b sound len) in
-    record {
-      outcome = rw marked;
-      memories = λ store. ap (λ (l : List ℕ). memories l store) (bytes ∙ whole-panel panel (b .width * b .height) c fits small);
-    }
+filled l panel c sound len small marked bytes store =
+    let fits : 2 * (view l .width * view l .height) ≤ length panel = omega (arith, panel-fits (view l) sound len) in
+    acceptance refl refl marked (ap (λ (p : List ℕ). memories p store) (bytes ∙ whole-panel panel (view l .width * view l .height) c fits small))
 
--- a plan that only answers
-answered : (b : GdiState) (panel : List ℕ) {p : Plan} {a : Answer} → p ≡ told b a → DoneOnPanel p b panel (record { state = b; answer = a }) panel
-unfolding after
-answered b panel e = record { outcome = rw e; memories = λ store. rw e }
-
--- resize: nothing to do, a side too long, memory too short, and the new size
-module _ (b : GdiState) (panel : List ℕ) (w h : ℕ) {t : Bool} (e : t ≡ ((eqb w 0 || eqb h 0) || (eqb w (b .width) && eqb h (b .height)))) where
-  pub same-size : t ≡ true → DoneOnPanel (resize b w h) b panel (record { state = b; answer = Drawn }) panel
+-- the plan of a resize: nothing to do, a side too long, memory too short, and the new size
+module _ (b : GdiState) (w h : ℕ) {t : Bool} (e : t ≡ noEffect b w h) where
+  pub same-size : t ≡ true → resize b w h ≡ told b done
   unfolding resize
-  same-size f = answered b panel plan
-    where
-      plan : resize b w h ≡ told b Drawn
-      plan = rw (← e, f)
+  same-size f = rw (← e, f)
 
   module _ (f : t ≡ false) where
-    pub too-wide : 4096 < w → DoneOnPanel (resize b w h) b panel (record { state = b; answer = Refused 6 }) panel
+    pub too-wide : 4096 < w → resize b w h ≡ refuse 6 b
     unfolding resize
-    too-wide lt = answered b panel plan
-      where
-        plan : resize b w h ≡ refuse 6 b
-        plan = rw (← e, f, lt-ltb 4096 w lt)
+    too-wide lt = rw (← e, f, lt-ltb 4096 w lt)
 
     module _ (wide : w ≤ 4096) where
-      pub too-high : 4096 < h → DoneOnPanel (resize b w h) b panel (record { state = b; answer = Refused 6 }) panel
+      pub too-high : 4096 < h → resize b w h ≡ refuse 6 b
       unfolding resize
-      too-high lt = answered b panel plan
-        where
-          plan : resize b w h ≡ refuse 6 b
-          plan = rw (← e, f, le-ltb 4096 w wide, lt-ltb 4096 h lt)
+      too-high lt = rw (← e, f, le-ltb 4096 w wide, lt-ltb 4096 h lt)
 
       module _ (high : h ≤ 4096) where
-        pub too-short : b .«panel_len» < size w h → DoneOnPanel (resize b w h) b panel (record { state = b; answer = Refused 7 }) panel
+        pub too-short : b .«panel_len» < size w h → resize b w h ≡ refuse 7 b
         unfolding resize
-        too-short lt = answered b panel plan
-          where
-            plan : resize b w h ≡ refuse 7 b
-            plan = rw (← e, f, le-ltb 4096 w wide, le-ltb 4096 h high, lt-ltb (b .«panel_len») (size w h) lt)
+        too-short lt = rw (← e, f, le-ltb 4096 w wide, le-ltb 4096 h high, lt-ltb (b .«panel_len») (size w h) lt)
 
-        pub new-size : size w h ≤ b .«panel_len» → {a : GdiState} → a ≡ dirtied (withSides b w h) Panel → {l : List ℕ} → l ≡ blanked panel 0 (size w h)
-            → DoneOnPanel (resize b w h) b panel (record { state = a; answer = Drawn }) l
-        unfolding resize after paintedBy
-        new-size le marked zeroed = record { outcome = rw (plan, marked); memories = λ store. rw (plan, zeroed) }
-          where
-            plan : resize b w h ≡ resized b w h
-            plan = rw (← e, f, le-ltb 4096 w wide, le-ltb 4096 h high, le-ltb (b .«panel_len») (size w h) le)
+        pub new-size : size w h ≤ b .«panel_len» → resize b w h ≡ resized b w h
+        unfolding resize
+        new-size le = rw (← e, f, le-ltb 4096 w wide, le-ltb 4096 h high, le-ltb (b .«panel_len») (size w h) le)
+
+-- an effective resize
+pub sized : (l : List ℕ) (w h : ℕ) {panel panel′ l′ : List ℕ} → resize (view l) w h ≡ resized (view l) w h → panel′ ≡ blanked panel 0 (size w h)
+    → Stored l (dirtied (withSides (view l) w h) Panel) l′ → (store : List ℕ) → Followed (resize (view l) w h) l (memories panel store) done l′ (memories panel′ store)
+unfolding after paintedBy
+sized l w h e zeroed marked store = acceptance refl (rw e) marked (rw (e, zeroed))

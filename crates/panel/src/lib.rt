@@ -1,79 +1,76 @@
-// Panel fill and resize, on a record that is sound and lent with its panel memory.
+// Panel fill and resize, on a record lent as numbers.
 ghost use mathlib.Core.Path.{_≡_};
 ghost use mathlib.Core.Bool.{true, _&&_, _||_};
 ghost use lib.Dec.{eqb};
 ghost use lib.ListN.{length};
-ghost use Rattle.sound.specs.Sound.{isSound};
 ghost use Rattle.plan.specs.Panel.{panelFill, resize};
-ghost use Rattle.plan.specs.Calls.{DoneOnPanel};
+ghost use Rattle.gdi.specs.Updates.{withSides};
+ghost use Rattle.numbers.specs.View.{view, isRecord, Stored};
+ghost use Rattle.ready.specs.Ready.{Lent};
+ghost use Rattle.paint.specs.Memories.{memories};
+ghost use mathlib.Core.List.{List};
+ghost use Prim.Native.Nat.{ℕ};
+ghost use Rattle.plan.specs.Answer.{partsOf};
+ghost use Rattle.plan.specs.Followed.{Followed};
 use color::Rgb565;
-use gdi::GdiState;
+use gdi::Found;
+use numbers::HEIGHT;
+use numbers::PANEL_LEN;
+use numbers::WIDTH;
 use place::SurfaceId;
 use plan::Answer;
-use plan::Outcome;
+use surface::BAD_SIDE;
+use surface::MAX_SIDE;
 
 // The refusal of a size that does not fit the panel memory.
 pub const PANEL_TOO_SHORT: u32 = 7;
 
 // The whole panel in one colour.
-pub fn fill(state: GdiState, panel: &mut [u8], color: Rgb565) -> Outcome
-    requires { ⌜ isSound state ≡ true ⌝ }
-    requires { ⌜ length (now panel) ≡ state .«panel_len» ⌝ }
-    ensures { λ r. ⌜ DoneOnPanel (panelFill state (color .0)) state (now (panel .entry)) r (now (panel .exit)) ⌝ }
+pub fn fill(l: &mut [u32], panel: &mut [u8], color: Rgb565) -> Answer
+    requires { ⌜ Lent (now l) (length (now panel)) (view (now l) .«store_len») ⌝ }
+    ensures { λ r. ⌜ ((store : List ℕ) → Followed (panelFill (view (now (l .entry))) (color .0)) (now (l .entry)) (memories (now (panel .entry)) store) (partsOf r) (now (l .exit)) (memories (now (panel .exit)) store)) ⌝ }
 {
-    let n = (state.width * state.height) as usize;
+    let n = (l[WIDTH] * l[HEIGHT]) as usize;
     runs::fill_run(panel, 0, n, color.0);
-    let after = dirty::mark_dirty(state, SurfaceId::Panel);
-    Outcome {
-        state: after,
-        answer: Answer::Drawn,
-    }
+    dirty::mark_dirty(l, SurfaceId::Panel, Found::Nothing);
+    Answer::Drawn
 }
 
 // The panel at another size, black. A side of 0 or the present size does nothing.
-pub fn resize(state: GdiState, panel: &mut [u8], width: u32, height: u32) -> Outcome
-    requires { ⌜ isSound state ≡ true ⌝ }
-    requires { ⌜ length (now panel) ≡ state .«panel_len» ⌝ }
-    ensures { λ r. ⌜ DoneOnPanel (resize state width height) state (now (panel .entry)) r (now (panel .exit)) ⌝ }
+pub fn resize(l: &mut [u32], panel: &mut [u8], width: u32, height: u32) -> Answer
+    requires { ⌜ Lent (now l) (length (now panel)) (view (now l) .«store_len») ⌝ }
+    ensures { λ r. ⌜ ((store : List ℕ) → Followed (resize (view (now (l .entry))) width height) (now (l .entry)) (memories (now (panel .entry)) store) (partsOf r) (now (l .exit)) (memories (now (panel .exit)) store)) ⌝ }
 {
-    if no_effect(width, height, state.width, state.height) {
-        return Outcome {
-            state: state,
-            answer: Answer::Drawn,
-        };
+    if no_effect(width, height, l[WIDTH], l[HEIGHT]) {
+        return Answer::Drawn;
     }
-    if surface::MAX_SIDE < width {
-        return Outcome {
-            state: state,
-            answer: Answer::Refused(surface::BAD_SIDE),
-        };
+    if MAX_SIDE < width {
+        return Answer::Refused(BAD_SIDE);
     }
-    if surface::MAX_SIDE < height {
-        return Outcome {
-            state: state,
-            answer: Answer::Refused(surface::BAD_SIDE),
-        };
+    if MAX_SIDE < height {
+        return Answer::Refused(BAD_SIDE);
     }
     let n = 2 * ((width * height) as usize);
-    if state.panel_len < n {
-        return Outcome {
-            state: state,
-            answer: Answer::Refused(PANEL_TOO_SHORT),
-        };
+    if (l[PANEL_LEN] as usize) < n {
+        return Answer::Refused(PANEL_TOO_SHORT);
     }
     memory::zero(panel, 0, n);
-    let mut sized = state;
-    sized.width = width;
-    sized.height = height;
-    let after = dirty::mark_dirty(sized, SurfaceId::Panel);
-    Outcome {
-        state: after,
-        answer: Answer::Drawn,
-    }
+    store_sides(l, width, height);
+    dirty::mark_dirty(l, SurfaceId::Panel, Found::Nothing);
+    Answer::Drawn
+}
+
+// Puts the panel's sides.
+fn store_sides(l: &mut [u32], width: u32, height: u32)
+    requires { ⌜ isRecord (now l) ≡ true ⌝ }
+    ensures { λ _. ⌜ Stored (now (l .entry)) (withSides (view (now (l .entry))) width height) (now (l .exit)) ⌝ }
+{
+    l[WIDTH] = width;
+    l[HEIGHT] = height;
 }
 
 // Whether a resize from these sides does nothing.
-pub fn no_effect(width: u32, height: u32, present_w: u32, present_h: u32) -> bool
+fn no_effect(width: u32, height: u32, present_w: u32, present_h: u32) -> bool
     ensures { λ r. ⌜ r ≡ ((eqb width 0 || eqb height 0) || (eqb width «present_w» && eqb height «present_h»)) ⌝ }
 {
     if width == 0 {

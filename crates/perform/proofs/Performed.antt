@@ -1,61 +1,45 @@
--- From the common refusals and from what a called function ensures to a call performed. Assumes nothing.
-use mathlib.Core.Bool.{true, false}
-use mathlib.Core.List.{List, []}
-use mathlib.Core.Path.{_≡_, sym, _∙_}
-use Prim.Native.Nat.{ℕ, _≤_}
+-- From the common refusals, and from what a called function ensures, to a call performed. Assumes nothing.
+use mathlib.Core.Bool.{Bool, true, false, cond}
+use mathlib.Core.List.{List}
+use mathlib.Core.Path.{_≡_, refl, sym, _∙_, ap}
+use Prim.Native.Nat.{ℕ}
 use lib.Dec.{eqb}
 use lib.ListN.{length}
 use borrow.Author.Tests.{eq-eqb, ne-eqb}
 use Rattle.gdi.specs.declared.GdiState.{GdiState}
-use Rattle.sound.specs.Sound.{isSound}
-use Rattle.sound.proofs.Sound.{parts}
-use Rattle.ready.specs.Ready.{Ready, commonRefusal}
-use Rattle.ready.proofs.Ready.{ready}
+use Rattle.numbers.specs.View.{view, isRecord}
+use Rattle.ready.specs.Ready.{commonRefusal, commonRefusalOn, Lent}
+use Rattle.ready.proofs.Ready.{looks, lent}
+use Rattle.paint.specs.Memories.{Memories}
 use Rattle.plan.specs.declared.Call.{Call}
-use Rattle.plan.specs.declared.Answer.the-variants.{Refused}
-use Rattle.plan.specs.declared.Outcome.{Outcome}
-use Rattle.paint.specs.Memories.{Memories, memories}
-use Rattle.paint.specs.Paint.{after}
-use Rattle.plan.specs.Calls.{act, plan, planOf, Followed, Performed, Done, DoneOnPanel}
+use Rattle.plan.specs.Answer.{Parts, refused}
+use Rattle.plan.specs.Plan.{Plan, refuse}
+use Rattle.plan.specs.Calls.{act, plan, planOn}
+use Rattle.plan.specs.Followed.{Followed, Performed}
+use Rattle.plan.proofs.Followed.{followed-as, refusal-of-any}
 
--- what a called function requires, where no common refusal is
-module _ (b : GdiState) (n k : ℕ) {no : ℕ} (e : no ≡ commonRefusal b n k) (z : no ≡ 0) where
-  pub is-ready : Ready b n k
-  is-ready = ready b n k no e z
-
-  pub sound-lent : (isSound b ≡ true) × (k ≡ b .«store_len»)
-  sound-lent = (is-ready .sound, is-ready .store)
-
-  pub sound-shown : (isSound b ≡ true) × (n ≡ b .«panel_len»)
-  sound-shown = (is-ready .sound, is-ready .panel)
-
-  pub few-objects : b .count ≤ 256
-  few-objects = parts b (is-ready .sound) .count
-
-module _ (us : List ℕ) (b : GdiState) (ms : Memories) {no : ℕ} (e : no ≡ commonRefusal b (length (ms .panel)) (length (ms .store))) where
-  pub refused : (c : Call) → (no ≡ 0 → ⊥) → Performed c us b ms (record { state = b; answer = Refused no }) ms
-  unfolding plan after
-  refused c ne = record { outcome = rw (off, e); memories = rw off }
+module _ (c : Call) (us l : List ℕ) (ms : Memories) {no : ℕ} (e : no ≡ commonRefusalOn l (length (ms .panel)) (length (ms .store))) where
+  -- the refusals that all calls share
+  pub refused-all : (no ≡ 0 → ⊥) → Performed c us l ms (refused no) l ms
+  unfolding planOn plan
+  refused-all ne = refusal-of-any ne (by (isRecord l) e)
     where
-      off : eqb (commonRefusal b (length (ms .panel)) (length (ms .store))) 0 ≡ false
-      off = ne-eqb _ _ (λ h. ne (e ∙ h))
+      number : ℕ
+      number = commonRefusal (view l) (length (ms .panel)) (length (ms .store))
 
-  module _ (z : no ≡ 0) {c v : Call} (is : c ≡ v) where
-    looked : planOf c us b ms ≡ act v us b
-    unfolding plan
-    looked = rw (is, eq-eqb _ _ (sym e ∙ z))
+      by : (t : Bool) → no ≡ cond t number 9 → cond t (cond (eqb number 0) (act c us (view l)) (refuse number (view l))) (refuse 9 (view l)) ≡ refuse no (view l)
+      by true f = rw (ne-eqb number 0 (λ z. ne (f ∙ z)), f)
+      by false f = rw f
 
-    -- a function that ensures what it does to both memories, to the store, or to the panel memory
-    pub followed : {r : Outcome} {ms′ : Memories} → Followed (act v us b) b ms r ms′ → Performed c us b ms r ms′
-    followed d = record { outcome = d .outcome ∙ rw looked; memories = d .memories ∙ rw looked }
+  module _ (z : no ≡ 0) where
+    pub is-lent : Lent l (length (ms .panel)) (length (ms .store))
+    is-lent = lent l (length (ms .panel)) (length (ms .store)) no e z
 
-    pub did : {r : Outcome} {s′ : List ℕ} → Done (act v us b) b (ms .store) r s′ → Performed c us b ms r (memories (ms .panel) s′)
-    did d = followed (record { outcome = d .outcome; memories = d .memories (ms .panel) })
+    -- the call v, which was looked at
+    module _ {v : Call} (is : c ≡ v) where
+      looked : planOn c us l (length (ms .panel)) (length (ms .store)) ≡ act v us (view l)
+      unfolding planOn plan
+      looked = rw (is, is-lent .is-record, looks (is-lent .ready))
 
-    pub did-on-panel : {r : Outcome} {p′ : List ℕ} → DoneOnPanel (act v us b) b (ms .panel) r p′ → Performed c us b ms r (memories p′ (ms .store))
-    did-on-panel d = followed (record { outcome = d .outcome; memories = d .memories (ms .store) })
-
-    -- a function without memories, whose call paints nothing
-    pub did-unpainted : {r : Outcome} → r ≡ act v us b .outcome → act v us b .paint ≡ [] → Performed c us b ms r ms
-    unfolding after
-    did-unpainted o p = record { outcome = o ∙ rw looked; memories = rw (looked, p) }
+      pub performed : {a : Parts} {l′ : List ℕ} {ms′ : Memories} → Followed (act v us (view l)) l ms a l′ ms′ → Performed c us l ms a l′ ms′
+      performed f = followed-as looked f

@@ -1,36 +1,33 @@
 // The exported way to a DC's pixels: the part of the panel memory or of the store that is its surface.
 ghost use mathlib.Core.Path.{_≡_};
+ghost use lib.ListN.{length};
+ghost use denote.Ref.{ptr};
 ghost use Rattle.paint.specs.Memories.{memories};
-ghost use Rattle.pixels.specs.Pixels.{pixelsOf, Found};
-use gdi::GdiState;
+ghost use Rattle.pixels.specs.Pixels.{placeOf, pixelsOf, pointerAt, Found};
 use place::Memory;
 use place::Place;
 use place::Target;
 
 // Where the pixels of a DC lie; nowhere if a drawing on it would be refused.
-pub fn place_of(state: GdiState, panel_len: usize, store_len: usize, dc: u32) -> Place
-    ensures { λ r. ⌜ Found state «panel_len» «store_len» dc r ⌝ }
+pub fn place_of(l: &[u32], panel_len: usize, store_len: usize, dc: u32) -> Place
+    ensures { λ r. ⌜ Found (now (l .entry)) «panel_len» «store_len» dc r ⌝ }
 {
-    if ready::common_refusal(state, panel_len, store_len) != 0 {
+    if ready::common_refusal(l, panel_len, store_len) != 0 {
         return Place::Nowhere;
     }
-    match place::target_of(state, dc) {
+    match place::target_of(l, dc) {
         Target::NoDc => Place::Nowhere,
         Target::NoSurface => Place::Nowhere,
-        Target::On(s, _) => place::where_is(state, s),
+        Target::On(_, site, _) => site.at,
     }
 }
 
 // A DC's pixels, to be changed; no byte if a drawing on it would be refused with 9, 8, 1 or 2.
-pub fn pixels_mut<'a>(
-    state: GdiState,
-    panel: &'a mut [u8],
-    store: &'a mut [u8],
-    dc: u32,
-) -> &'a mut [u8]
-    ensures { λ r. ⌜ now r ≡ pixelsOf state (memories (now (panel .entry)) (now (store .entry))) dc ⌝ }
+pub fn pixels_mut<'a>(l: &[u32], panel: &'a mut [u8], store: &'a mut [u8], dc: u32) -> &'a mut [u8]
+    ensures { λ r. ⌜ now r ≡ pixelsOf (now (l .entry)) (memories (now (panel .entry)) (now (store .entry))) dc ⌝ }
+    ensures place { λ r. ⌜ ptr r ≡ pointerAt (ptr (panel .entry)) (ptr (store .entry)) (placeOf (now (l .entry)) (length (now (panel .entry))) (length (now (store .entry))) dc) ⌝ }
 {
-    let at = place_of(state, panel.len(), store.len(), dc);
+    let at = place_of(l, panel.len(), store.len(), dc);
     match at {
         Place::Nowhere => &mut panel[0..0],
         Place::At(m, p, w, h) => {
@@ -44,10 +41,11 @@ pub fn pixels_mut<'a>(
 }
 
 // The same to be read.
-pub fn pixels<'a>(state: GdiState, panel: &'a [u8], store: &'a [u8], dc: u32) -> &'a [u8]
-    ensures { λ r. ⌜ now r ≡ pixelsOf state (memories (now (panel .entry)) (now (store .entry))) dc ⌝ }
+pub fn pixels<'a>(l: &[u32], panel: &'a [u8], store: &'a [u8], dc: u32) -> &'a [u8]
+    ensures { λ r. ⌜ now r ≡ pixelsOf (now (l .entry)) (memories (now (panel .entry)) (now (store .entry))) dc ⌝ }
+    ensures place { λ r. ⌜ ptr r ≡ pointerAt (ptr (panel .entry)) (ptr (store .entry)) (placeOf (now (l .entry)) (length (now (panel .entry))) (length (now (store .entry))) dc) ⌝ }
 {
-    let at = place_of(state, panel.len(), store.len(), dc);
+    let at = place_of(l, panel.len(), store.len(), dc);
     match at {
         Place::Nowhere => &panel[0..0],
         Place::At(m, p, w, h) => {

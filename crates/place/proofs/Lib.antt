@@ -2,3 +2,4 @@ pub mod Places
 pub mod Targets
 pub mod Apart
 pub mod Same
+pub mod Numbers

@@ -1,6 +1,6 @@
 -- The steps of locating a bitmap, and the cases of a surface's place, each inside its memory. Assumes nothing.
 use mathlib.Core.Bool.{true}
-use mathlib.Core.Path.{_≡_, sym, _∙_, subst, subst⁻¹}
+use mathlib.Core.Path.{_≡_, sym, _∙_, ap₂, subst, subst⁻¹}
 use Prim.Native.Nat.{ℕ, suc, _+_, _-_, _*_, _≤_, _<_}
 use native.Mathlib.Nat.{mul-le-mul}
 use native.Mathlib.Numerals.{add-one}
@@ -10,17 +10,20 @@ use Rattle.laws.proofs.Test.{both}
 use Rattle.surface.specs.Refusal.{side}
 use Rattle.surface.proofs.Accepted.{side-range}
 use Rattle.gdi.specs.declared.GdiState.{GdiState}
+use Rattle.gdi.specs.declared.Found.{Found}
+use Rattle.gdi.specs.declared.Found.the-variants.{At as InSlot, Nothing}
 use Rattle.gdi.specs.declared.GdiObject.{GdiObject}
 use Rattle.gdi.specs.declared.GdiObject.the-variants.{Dc as DcOf, Bitmap as BitmapOf, Brush, Pen, Font}
 use Rattle.gdi.specs.Record.{size, bytesOf}
 use Rattle.gdi.specs.Stock.{stockBitmap}
-use Rattle.gdi.specs.Lookup.{handleAt, objectAt}
+use Rattle.gdi.specs.Lookup.{handleAt, objectAt, findOf}
 use Rattle.sound.specs.Sound.{objectFits, startOf, isSound}
 use Rattle.sound.proofs.Sound.{parts, fits-at, room}
 use Rattle.place.specs.declared.Memory.{Memory}
 use Rattle.place.specs.declared.Memory.the-variants.{Panel as PanelMemory, Store}
 use Rattle.place.specs.declared.Place.{Place}
 use Rattle.place.specs.declared.Place.the-variants.{Nowhere, At}
+use Rattle.place.specs.declared.Site.{Site}
 use Rattle.place.specs.declared.SurfaceId.{SurfaceId}
 use Rattle.place.specs.declared.SurfaceId.the-variants.{Panel, Bitmap}
 use Rattle.place.specs.Place.{slotsFrom, live, frameOf, locate, lengthOf, Inside, Within, Located, Placed}
@@ -73,24 +76,27 @@ object-within b s i p lt e =
     let q = parts b s in
     frame-within (objectAt b i) _ _ p (fits-at q i lt) (omega (arith, e, q .store, room q i lt))
 
+abbrev pub site : Place → Found → Site
+site at slot = record { at = at; slot = slot }
+
 -- the object of the handle was found at i, where pixels start at p
 pub located : (b : GdiState) → isSound b ≡ true → (h i p : ℕ) {r : Place} → i < b .count → handleAt (b .objects) i ≡ h
-    → p ≡ startOf b i → locatedFrom b h i p ≡ locate (live b) 2 h → r ≡ frameOf (objectAt b i) p → Located b h r
-located b s h i p lt e q inv f =
+    → p ≡ startOf b i → locatedFrom b h i p ≡ locate (live b) 2 h → InSlot i ≡ findOf b h → r ≡ frameOf (objectAt b i) p → Located b h (record { at = r; slot = InSlot i })
+located b s h i p lt e q inv g f =
     record {
-      same = f ∙ sym (hit b h i p lt e) ∙ inv;
+      same = ap₂ site (f ∙ sym (hit b h i p lt e) ∙ inv) g;
       within = subst⁻¹ (Within (b .«panel_len») (b .«store_len»)) f (object-within b s i p lt q);
     }
 
 -- the cases of a surface's place
 module _ (b : GdiState) (sound : isSound b ≡ true) {u : SurfaceId} where
-  pub placed-panel : u ≡ Panel → Placed b u (At PanelMemory 0 (b .width) (b .height))
+  pub placed-panel : u ≡ Panel → Placed b u (site (At PanelMemory 0 (b .width) (b .height)) Nothing)
   placed-panel e = let q = parts b sound in record { same = rw e; within = inside (q .width) (q .height) (omega (arith, q .panel)) }
 
-  pub placed-stock : {h : ℕ} → u ≡ Bitmap h → h ≡ stockBitmap → Placed b u (At Store 0 1 1)
+  pub placed-stock : {h : ℕ} → u ≡ Bitmap h → h ≡ stockBitmap → Placed b u (site (At Store 0 1 1) Nothing)
   placed-stock e f = record { same = rw (e, eq-eqb _ _ f); within = omega (arith, parts b sound .store) }
 
-  pub placed-created : {h : ℕ} {r : Place} → u ≡ Bitmap h → (h ≡ stockBitmap → ⊥) → Located b h r → Placed b u r
+  pub placed-created : {h : ℕ} {r : Site} → u ≡ Bitmap h → (h ≡ stockBitmap → ⊥) → Located b h r → Placed b u r
   placed-created e ne l = record { same = rw (e, ne-eqb _ _ ne) (l .same); within = l .within }
 
 -- a surface's pixels can be counted

@@ -14,7 +14,8 @@ use Rattle.gdi.specs.declared.GdiState.{GdiState}
 use Rattle.gdi.specs.declared.Slot.{Slot}
 use Rattle.gdi.specs.declared.Spot.{Spot}
 use Rattle.gdi.specs.declared.Spot.the-variants.{Screen, Created}
-use Rattle.gdi.specs.Record.{noSlot, bytesOf, withObjects, storeOf}
+use Rattle.gdi.specs.Record.{noSlot, bytesOf}
+use Rattle.gdi.specs.Updates.{withObjects, storeOf}
 use Rattle.gdi.specs.Stock.{stockBitmap}
 use Rattle.gdi.specs.Lookup.{slotAt, handleAt, objectAt, dcOf}
 use Rattle.gdi.proofs.Scan.{scan-handle, dc-found}

@@ -9,6 +9,8 @@ use Rattle.gdi.specs.declared.GdiState.{GdiState}
 use Rattle.gdi.specs.declared.Slot.{Slot}
 use Rattle.gdi.specs.declared.Dc.{Dc}
 use Rattle.gdi.specs.declared.Spot.the-variants.{Screen, Created}
+use Rattle.gdi.specs.declared.Found.{Found}
+use Rattle.gdi.specs.declared.Found.the-variants.{Nothing}
 use Rattle.gdi.specs.declared.DcFound.{DcFound}
 use Rattle.gdi.specs.declared.DcFound.the-variants.{Is, Absent}
 use Rattle.gdi.specs.declared.SelectedBitmap.{SelectedBitmap}
@@ -17,11 +19,12 @@ use Rattle.gdi.specs.declared.GdiObject.{GdiObject}
 use Rattle.gdi.specs.declared.GdiObject.the-variants.{Dc as DcOf, Bitmap as BitmapOf, Brush, Pen, Font}
 use Rattle.gdi.specs.Record.{noSlot, size, bytesOf}
 use Rattle.gdi.specs.Stock.{stockBitmap}
-use Rattle.gdi.specs.Lookup.{dcOf}
+use Rattle.gdi.specs.Lookup.{findOf, dcOf}
 use Rattle.place.specs.declared.Memory.{Memory}
 use Rattle.place.specs.declared.Memory.the-variants.{Panel as PanelMemory, Store}
 use Rattle.place.specs.declared.Place.{Place}
 use Rattle.place.specs.declared.Place.the-variants.{Nowhere, At}
+use Rattle.place.specs.declared.Site.{Site}
 use Rattle.place.specs.declared.SurfaceId.{SurfaceId}
 use Rattle.place.specs.declared.SurfaceId.the-variants.{Panel, Bitmap}
 use Rattle.place.specs.declared.Target.{Target}
@@ -61,6 +64,15 @@ abbrev pub whereIs : GdiState → SurfaceId → Place
 whereIs b Panel = At PanelMemory 0 (b .width) (b .height)
 whereIs b (Bitmap h) = cond (eqb h stockBitmap) (At Store 0 1 1) (locate (live b) 2 h)
 
+-- the slot of a bitmap's record; the panel and the stock bitmap have none
+abbrev pub slotFor : GdiState → SurfaceId → Found
+slotFor b Panel = Nothing
+slotFor b (Bitmap h) = cond (eqb h stockBitmap) Nothing (findOf b h)
+
+-- where a surface lies, and the slot of its record
+abbrev pub siteOf : GdiState → SurfaceId → Site
+siteOf b s = record { at = whereIs b s; slot = slotFor b s }
+
 -- a place inside its memory, which has len bytes, with sides in their limits
 pub record Inside (len p w h : ℕ) : Type 0 where
   pub fits : p + size w h ≤ len
@@ -79,14 +91,14 @@ Within n k Nowhere = Unit
 Within n k (At m p w h) = Inside (lengthOf n k m) p w h
 
 -- a created bitmap was located, inside its memory
-pub record Located (b : GdiState) (h : ℕ) (r : Place) : Type 0 where
-  pub same : r ≡ locate (live b) 2 h
-  pub within : Within (b .«panel_len») (b .«store_len») r
+pub record Located (b : GdiState) (h : ℕ) (r : Site) : Type 0 where
+  pub same : r ≡ record { at = locate (live b) 2 h; slot = findOf b h }
+  pub within : Within (b .«panel_len») (b .«store_len») (r .at)
 
--- a surface's place was found, inside its memory
-pub record Placed (b : GdiState) (s : SurfaceId) (r : Place) : Type 0 where
-  pub same : r ≡ whereIs b s
-  pub within : Within (b .«panel_len») (b .«store_len») r
+-- a surface's site was found, inside its memory
+pub record Placed (b : GdiState) (s : SurfaceId) (r : Site) : Type 0 where
+  pub same : r ≡ siteOf b s
+  pub within : Within (b .«panel_len») (b .«store_len») (r .at)
 
 -- a target, unless its surface is nowhere
 abbrev pub unlessNowhere : Place → Target → Target
@@ -95,10 +107,10 @@ unlessNowhere (At m p w h) t = t
 
 abbrev pub onSelected : GdiState → Dc → SelectedBitmap → Target
 onSelected b d Unset = NoSurface
-onSelected b d (Chosen h) = unlessNowhere (whereIs b (Bitmap h)) (On (Bitmap h) d)
+onSelected b d (Chosen h) = unlessNowhere (whereIs b (Bitmap h)) (On (Bitmap h) (siteOf b (Bitmap h)) d)
 
 abbrev pub targetFound : GdiState → DcFound → Target
-targetFound b (Is Screen d) = On Panel d
+targetFound b (Is Screen d) = On Panel (siteOf b Panel) d
 targetFound b (Is (Created i) d) = onSelected b d (d .«selected_bitmap»)
 targetFound b Absent = NoDc
 

@@ -1,15 +1,29 @@
-// Where a surface lies in the two memories, and which surface a DC paints.
+// Where a surface lies in the two memories, and which surface a DC paints, read from the numbers of a bench record.
 ghost use mathlib.Core.Path.{_≡_};
 ghost use mathlib.Core.Bool.{true};
+ghost use Prim.Native.Nat.{_+_, _≤_};
+ghost use lib.ListN.{length};
+ghost use Rattle.words.specs.Parts.{part};
+ghost use Rattle.numbers.specs.Layout.{objectSize, slotSize, kindPlace, objectPlace};
+ghost use Rattle.numbers.specs.Block.{at, objectOf};
+ghost use Rattle.numbers.specs.View.{view, isRecord};
 ghost use Rattle.sound.specs.Sound.{isSound};
+ghost use Rattle.gdi.specs.declared.Found.the-variants.{Nothing};
 ghost use Rattle.place.specs.Place.{frameOf, targetOf, Located, Placed};
 use gdi::Dc;
 use gdi::DcFound;
-use gdi::GdiObject;
-use gdi::GdiState;
+use gdi::Found;
 use gdi::STOCK_DEFAULT_BITMAP;
 use gdi::SelectedBitmap;
 use gdi::Spot;
+use numbers::BITMAP_HEIGHT;
+use numbers::COUNT;
+use numbers::HEIGHT;
+use numbers::KIND;
+use numbers::OBJECT;
+use numbers::SLOT;
+use numbers::SLOTS;
+use numbers::WIDTH;
 
 // The two memories that a caller lends.
 pub enum Memory {
@@ -29,80 +43,104 @@ pub enum SurfaceId {
     Bitmap(u32),
 }
 
-// The surface that a DC paints, with the DC's record.
+// Where a surface lies, and the slot of its record if it is a created bitmap.
+pub struct Site {
+    pub at: Place,
+    pub slot: Found,
+}
+
+// The surface that a DC paints, its site, and the DC's record.
 pub enum Target {
     NoDc,
     NoSurface,
-    On(SurfaceId, Dc),
+    On(SurfaceId, Site, Dc),
 }
 
-// The place of an object whose pixels would start at this byte of the store.
-pub fn frame(object: GdiObject, at: usize) -> Place
-    ensures { λ r. ⌜ r ≡ frameOf object at ⌝ }
+// The place of the object whose slot stands from number p on, if its pixels start at byte start of the store.
+fn frame(l: &[u32], p: usize, start: usize) -> Place
+    requires { ⌜ p + slotSize ≤ length (now l) ⌝ }
+    ensures { λ r. ⌜ r ≡ frameOf (objectOf (at (now (l .entry)) (p + kindPlace)) (part (now (l .entry)) (p + objectPlace) objectSize)) start ⌝ }
 {
-    match object {
-        GdiObject::Dc(_) => Place::Nowhere,
-        GdiObject::Bitmap(m) => Place::At(Memory::Store, at, m.width, m.height),
-        GdiObject::Brush(_) => Place::Nowhere,
-        GdiObject::Pen(_) => Place::Nowhere,
-        GdiObject::Font(_) => Place::Nowhere,
+    if l[p + KIND] != 1 {
+        return Place::Nowhere;
     }
+    Place::At(Memory::Store, start, l[p + OBJECT], l[p + BITMAP_HEIGHT])
 }
 
 // Where the created bitmap of this handle lies.
-pub fn locate(state: GdiState, handle: u32) -> Place
-    requires { ⌜ isSound state ≡ true ⌝ }
-    ensures { λ r. ⌜ Located state handle r ⌝ }
+fn locate(l: &[u32], handle: u32) -> Site
+    requires { ⌜ isRecord (now l) ≡ true ⌝ }
+    requires { ⌜ isSound (view (now l)) ≡ true ⌝ }
+    ensures { λ r. ⌜ Located (view (now (l .entry))) handle r ⌝ }
 {
-    let n = state.count;
+    let n = l[COUNT] as usize;
     let mut i: usize = 0;
-    let mut at: usize = 2;
+    let mut start: usize = 2;
     while i < n {
-        let s = state.objects[i];
-        let o = s.object;
-        if s.handle == handle {
-            return frame(o, at);
+        let p = SLOTS + SLOT * i;
+        if l[p] == handle {
+            let at = frame(l, p, start);
+            return Site {
+                at,
+                slot: Found::At(i),
+            };
         }
-        at += sound::bytes_of(o);
+        start += sound::bytes_of(l, p);
         i += 1;
     }
-    Place::Nowhere
+    untabled(Place::Nowhere)
+}
+
+// The site of a surface that no slot holds.
+fn untabled(at: Place) -> Site
+    ensures { λ r. ⌜ r ≡ record { at = at; slot = Nothing } ⌝ }
+{
+    Site {
+        at,
+        slot: Found::Nothing,
+    }
 }
 
 // Where a surface lies.
-pub fn where_is(state: GdiState, id: SurfaceId) -> Place
-    requires { ⌜ isSound state ≡ true ⌝ }
-    ensures { λ r. ⌜ Placed state id r ⌝ }
+pub fn where_is(l: &[u32], id: SurfaceId) -> Site
+    requires { ⌜ isRecord (now l) ≡ true ⌝ }
+    requires { ⌜ isSound (view (now l)) ≡ true ⌝ }
+    ensures { λ r. ⌜ Placed (view (now (l .entry))) id r ⌝ }
 {
     match id {
-        SurfaceId::Panel => Place::At(Memory::Panel, 0, state.width, state.height),
+        SurfaceId::Panel => untabled(Place::At(Memory::Panel, 0, l[WIDTH], l[HEIGHT])),
         SurfaceId::Bitmap(h) => {
             if h == STOCK_DEFAULT_BITMAP {
-                return Place::At(Memory::Store, 0, 1, 1);
+                return untabled(Place::At(Memory::Store, 0, 1, 1));
             }
-            locate(state, h)
+            locate(l, h)
         }
     }
 }
 
 // The surface that a DC paints.
-pub fn target_of(state: GdiState, dc: u32) -> Target
-    requires { ⌜ isSound state ≡ true ⌝ }
-    ensures { λ r. ⌜ r ≡ targetOf state dc ⌝ }
+pub fn target_of(l: &[u32], dc: u32) -> Target
+    requires { ⌜ isRecord (now l) ≡ true ⌝ }
+    requires { ⌜ isSound (view (now l)) ≡ true ⌝ }
+    ensures { λ r. ⌜ r ≡ targetOf (view (now (l .entry))) dc ⌝ }
 {
-    match lookup::find_dc(state, dc) {
+    match lookup::find_dc(l, dc) {
         DcFound::Is(p, d) => match p {
-            Spot::Screen => Target::On(SurfaceId::Panel, d),
+            Spot::Screen => {
+                let site = where_is(l, SurfaceId::Panel);
+                Target::On(SurfaceId::Panel, site, d)
+            }
             Spot::Created(_) => {
                 let k = d.selected_bitmap;
                 match k {
                     SelectedBitmap::Unset => Target::NoSurface,
                     SelectedBitmap::Chosen(h) => {
                         let s = SurfaceId::Bitmap(h);
-                        let at = where_is(state, s);
+                        let site = where_is(l, s);
+                        let at = site.at;
                         match at {
                             Place::Nowhere => Target::NoSurface,
-                            Place::At(_, _, _, _) => Target::On(s, d),
+                            Place::At(_, _, _, _) => Target::On(s, site, d),
                         }
                     }
                 }

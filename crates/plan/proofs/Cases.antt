@@ -19,7 +19,7 @@ use Rattle.place.specs.declared.Target.the-variants.{NoDc, NoSurface, On}
 use Rattle.place.specs.Place.{targetOf}
 use Rattle.plan.specs.declared.Area.{Area}
 use Rattle.plan.specs.declared.Point.{Point}
-use Rattle.plan.specs.declared.Answer.the-variants.{Drawn}
+use Rattle.plan.specs.Answer.{done}
 use Rattle.plan.specs.Plan.{Plan, told, refuse}
 use Rattle.plan.specs.Drawing.{onTarget, onSource, patternFillOn, patternFill, rectangleOn, rectangle, textOn, text, blitOn, blit}
 use Rattle.plan.specs.Panel.{resized, resize}
@@ -28,12 +28,12 @@ module _ {ℓ} (P : Plan → Type ℓ) (b : GdiState) (refused : (n : ℕ) → P
   on-target : (q : Target) (f : SurfaceId → Dc → Plan) → ((s : SurfaceId) (d : Dc) → P (f s d)) → P (onTarget b q f)
   on-target NoDc f k = refused 1
   on-target NoSurface f k = refused 2
-  on-target (On s d) f k = k s d
+  on-target (On s i d) f k = k s d
 
   on-source : (q : Target) (f : SurfaceId → Plan) → ((s : SurfaceId) → P (f s)) → P (onSource b q f)
   on-source NoDc f k = refused 3
   on-source NoSurface f k = refused 4
-  on-source (On s d) f k = k s
+  on-source (On s i d) f k = k s
 
   pub pattern-fill-by : (dc : ℕ) (a : Area) (rop : ℕ) → ((s : SurfaceId) (d : Dc) → P (patternFillOn b a (tableOf rop) s d)) → P (patternFill b dc a rop)
   unfolding patternFill
@@ -64,7 +64,7 @@ module _ {ℓ} (P : Plan → Type ℓ) (b : GdiState) (refused : (n : ℕ) → P
       by true = on-target (targetOf b dc) from (λ s d. on-source (targetOf b src) (blitOn b a p (tableOf rop) s d) (k s d))
       by false = pattern-fill-by dc a rop plain
 
-  pub resize-by : (w h : ℕ) → P (told b Drawn) → (side w ≡ true → side h ≡ true → size w h ≤ b .«panel_len» → P (resized b w h)) → P (resize b w h)
+  pub resize-by : (w h : ℕ) → P (told b done) → (side w ≡ true → side h ≡ true → size w h ≤ b .«panel_len» → P (resized b w h)) → P (resize b w h)
   unfolding resize
   resize-by w h none k = by (still || present) refl (ltb 4096 w || ltb 4096 h) refl (ltb (b .«panel_len») (size w h)) refl
     where
@@ -78,7 +78,7 @@ module _ {ℓ} (P : Plan → Type ℓ) (b : GdiState) (refused : (n : ℕ) → P
       is-side n e f = together (le-leb 1 n (omega (arith, eqb-false n 0 e))) (le-leb n 4096 (ltb-false 4096 n f))
 
       by : (s : Bool) → (still || present) ≡ s → (t : Bool) → (ltb 4096 w || ltb 4096 h) ≡ t → (u : Bool) → ltb (b .«panel_len») (size w h) ≡ u
-          → P (cond s (told b Drawn) (cond t (refuse 6 b) (cond u (refuse 7 b) (resized b w h))))
+          → P (cond s (told b done) (cond t (refuse 6 b) (cond u (refuse 7 b) (resized b w h))))
       by true d t e u f = none
       by false d true e u f = refused 6
       by false d false e true f = refused 7

@@ -10,8 +10,7 @@ use Rattle.surface.specs.Refusal.{side}
 use Rattle.gdi.specs.declared.GdiState.{GdiState}
 use Rattle.gdi.specs.declared.GdiObject.{GdiObject}
 use Rattle.gdi.specs.Record.{bytesOf}
-use Rattle.sound.specs.Sound.{objectFits, used, isSound}
-use Rattle.sound.proofs.Sound.{parts}
+use Rattle.sound.specs.Sound.{objectFits, used}
 use Rattle.plan.specs.Plan.{refuse}
 use Rattle.plan.specs.Create.{made, createOf, sideOf, newBitmap, createBitmap}
 
@@ -29,10 +28,6 @@ module _ (b : GdiState) (o : GdiObject) where
     pub made-plan : used b + bytesOf o ≤ b .«store_len» → createOf b o ≡ made b o
     unfolding createOf
     made-plan le = rw (lt-leb _ _ few, le-ltb _ _ le)
-
-    -- what has no pixels always finds room
-    pub pixelless-plan : isSound b ≡ true → bytesOf o ≡ 0 → createOf b o ≡ made b o
-    pixelless-plan sound z = made-plan (rw z (omega (arith, parts b sound .store)))
 
 -- a new bitmap: its sides, refused with 6, or as any object
 pub side-fits : (n : ℕ) → n ≤ 4096 → side (sideOf n) ≡ true

@@ -19,9 +19,7 @@ use Rattle.sound.specs.Sound.{used}
 use Rattle.ready.specs.Ready.{commonRefusal}
 use Rattle.plan.specs.declared.Call.{Call}
 use Rattle.plan.specs.declared.Call.the-variants.{CreateMemoryDc, CreateCompatibleBitmap, CreateSolidBrush, CreatePen, CreateFont, Delete, Remove, SelectInto, SetTextColor, SetTextAlign, SetBkColor, SetBkMode, PatternFill, Rectangle, Text, PanelFill, Resize, Blit}
-use Rattle.plan.specs.declared.Answer.{Answer}
-use Rattle.plan.specs.declared.Answer.the-variants.{Handle}
-use Rattle.plan.specs.Answer.{partsOf}
+use Rattle.plan.specs.Answer.{Parts, answered}
 use Rattle.plan.specs.Plan.{Plan, told, refuse}
 use Rattle.plan.specs.Create.{made, newBitmap, createOf, createBitmap}
 use Rattle.plan.specs.Delete.{goneAt, goes}
@@ -58,8 +56,8 @@ bitmap b w h = by (ltb 4096 w || ltb 4096 h)
     by true = refusal b 6
     by false = create b (newBitmap w h)
 
-module _ (stock : Answer) (gone : ℕ → Answer) (none : Answer) (b : GdiState) (h : ℕ)
-    (s : partsOf stock .number ≡ 0) (g : (i : ℕ) → partsOf (gone i) .number ≡ 0) (n : partsOf none .number ≡ 0) where
+module _ (stock : Parts) (gone : ℕ → Parts) (none : Parts) (b : GdiState) (h : ℕ)
+    (s : stock .number ≡ 0) (g : (i : ℕ) → gone i .number ≡ 0) (n : none .number ≡ 0) where
   leave : Keeps b (goes stock gone none b h)
   unfolding goes
   leave = by (isStock h) (findOf b h)
@@ -73,12 +71,12 @@ select : (b : GdiState) (dc h : ℕ) → Keeps b (selectInto b dc h)
 unfolding selectInto
 select b dc h = by (isOther (kindOf b h)) (kindOf b h) (dcOf b dc)
   where
-    by : (t : Bool) (k : Kind) (q : DcFound) → Keeps b (cond t (told b (Handle 0)) (selectAt b dc h k q))
+    by : (t : Bool) (k : Kind) (q : DcFound) → Keeps b (cond t (told b (answered 0)) (selectAt b dc h k q))
     by true k q = accepted b _ refl
     by false k (Is p d) = accepted b _ refl
     by false k Absent = accepted b _ refl
 
-set : (old : Dc → Answer) (new : Dc → Dc) (b : GdiState) (dc : ℕ) → ((d : Dc) → partsOf (old d) .number ≡ 0) → Keeps b (setting old new b dc)
+set : (old : Dc → Parts) (new : Dc → Dc) (b : GdiState) (dc : ℕ) → ((d : Dc) → old d .number ≡ 0) → Keeps b (setting old new b dc)
 unfolding setting
 set old new b dc e = by (dcOf b dc)
   where

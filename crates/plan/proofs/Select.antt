@@ -11,11 +11,10 @@ use Rattle.gdi.specs.declared.Spot.{Spot}
 use Rattle.gdi.specs.declared.Spot.the-variants.{Screen, Created}
 use Rattle.gdi.specs.declared.DcFound.{DcFound}
 use Rattle.gdi.specs.declared.DcFound.the-variants.{Is, Absent}
-use Rattle.gdi.specs.Record.{storeOf}
 use Rattle.gdi.specs.Lookup.{dcOf, kindOf}
+use Rattle.gdi.specs.Updates.{storeOf}
 use Rattle.place.proofs.Same.{Still, still-same, stored-places, stored-sound}
-use Rattle.plan.specs.declared.Answer.{Answer}
-use Rattle.plan.specs.declared.Answer.the-variants.{Handle}
+use Rattle.plan.specs.Answer.{Parts, answered}
 use Rattle.plan.specs.Plan.{Plan, told}
 use Rattle.plan.specs.Select.{selectIn, isOther, selectAt, selectInto}
 use Rattle.plan.specs.Settings.{settingAt, setting}
@@ -25,11 +24,11 @@ pub record Unpainted (b : GdiState) (p : Plan) : Type 0 where
   pub paint : p .paint ≡ []
   pub still : Still b (p .outcome .state)
 
-told-unpainted : (b : GdiState) (a : Answer) → Unpainted b (told b a)
+told-unpainted : (b : GdiState) (a : Parts) → Unpainted b (told b a)
 told-unpainted b a = record { paint = refl; still = still-same b }
 
 -- another DC record, with the same kind of surface
-module _ (b : GdiState) (dc : ℕ) {p : Spot} {d₀ : Dc} (d : Dc) (a : Answer) (found : dcOf b dc ≡ Is p d₀) (same : d .surface ≡ d₀ .surface) where
+module _ (b : GdiState) (dc : ℕ) {p : Spot} {d₀ : Dc} (d : Dc) (a : Parts) (found : dcOf b dc ≡ Is p d₀) (same : d .surface ≡ d₀ .surface) where
   panel-kept : (p : Spot) → storeOf b dc p d .«panel_len» ≡ b .«panel_len»
   panel-kept Screen = refl
   panel-kept (Created i) = refl
@@ -61,12 +60,12 @@ pub select-unpainted : (b : GdiState) (dc h : ℕ) → Unpainted b (selectInto b
 unfolding selectInto
 select-unpainted b dc h = by (isOther (kindOf b h)) (dcOf b dc) refl
   where
-    by : (t : Bool) (q : DcFound) → dcOf b dc ≡ q → Unpainted b (cond t (told b (Handle 0)) (selectAt b dc h (kindOf b h) q))
+    by : (t : Bool) (q : DcFound) → dcOf b dc ≡ q → Unpainted b (cond t (told b (answered 0)) (selectAt b dc h (kindOf b h) q))
     by true q e = told-unpainted b _
     by false (Is p d) e = stored-unpainted b dc _ _ e (select-surface d h (kindOf b h))
     by false Absent e = told-unpainted b _
 
-pub setting-unpainted : (old : Dc → Answer) (new : Dc → Dc) → ((d : Dc) → new d .surface ≡ d .surface) → (b : GdiState) (dc : ℕ) → Unpainted b (setting old new b dc)
+pub setting-unpainted : (old : Dc → Parts) (new : Dc → Dc) → ((d : Dc) → new d .surface ≡ d .surface) → (b : GdiState) (dc : ℕ) → Unpainted b (setting old new b dc)
 unfolding setting
 setting-unpainted old new same b dc = by (dcOf b dc) refl
   where

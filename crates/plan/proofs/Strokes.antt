@@ -5,16 +5,17 @@ use Prim.Native.Nat.{ℕ}
 use Rattle.gdi.specs.declared.GdiState.{GdiState}
 use Rattle.ready.specs.Ready.{Ready}
 use Rattle.place.specs.declared.Place.{Place}
+use Rattle.place.specs.declared.Site.{Site}
+use Rattle.place.specs.declared.SurfaceId.{SurfaceId}
+use Rattle.place.specs.Place.{slotFor, Placed}
 use Rattle.place.proofs.Same.{SamePlaces, Still, still-same, still-then}
 use Rattle.dirty.specs.Dirty.{dirtiedIf}
-use Rattle.dirty.proofs.Still.{dirtied-if-still, dirtied-if-count}
+use Rattle.dirty.proofs.Still.{dirtied-if-still, dirtied-if-slot, dirtied-if-count}
 use Rattle.paint.specs.Memories.{Memories, widthOf, over, colourAt}
 use Rattle.paint.specs.Paint.{Source, black, taken, Draw, draw, operand, drawn, paintedBy, after}
-use Rattle.plan.specs.declared.Answer.{Answer}
-use Rattle.plan.specs.Stroke.{Stroke, dirtiedBy, paintsOf, drawnBy, Stroked}
-use Rattle.plan.specs.Calls.{Followed}
+use Rattle.plan.specs.Stroke.{Stroke, dirtiedBy, paintsOf, Stroked}
 
--- the record after their dirty marks: one list after another, every surface in its place, as many objects
+-- the record after their dirty marks: one list after another, every surface in its place, every record in its slot, as many objects
 dirtied-by-append : (ss ts : List Stroke) (b : GdiState) → dirtiedBy b (ss ++ ts) ≡ dirtiedBy (dirtiedBy b ss) ts
 unfolding dirtiedBy
 dirtied-by-append [] ts b = refl
@@ -24,6 +25,11 @@ pub dirtied-by-still : (ss : List Stroke) (b : GdiState) → Still b (dirtiedBy 
 unfolding dirtiedBy
 dirtied-by-still [] b = still-same b
 dirtied-by-still (s ∷ ss) b = still-then (dirtied-if-still (s .due) (s .drawing .target) b) (dirtied-by-still ss (dirtiedIf (s .due) (s .drawing .target) b))
+
+pub dirtied-by-slot : (ss : List Stroke) (b : GdiState) (u : SurfaceId) → slotFor (dirtiedBy b ss) u ≡ slotFor b u
+unfolding dirtiedBy
+dirtied-by-slot [] b u = refl
+dirtied-by-slot (s ∷ ss) b u = dirtied-by-slot ss (dirtiedIf (s .due) (s .drawing .target) b) u ∙ dirtied-if-slot (s .due) (s .drawing .target) b u
 
 pub dirtied-by-count : (ss : List Stroke) (b : GdiState) → dirtiedBy b ss .count ≡ b .count
 unfolding dirtiedBy
@@ -51,11 +57,6 @@ module _ (b b′ : GdiState) (e : SamePlaces b b′) where
   same-drawings [] ms = refl
   same-drawings (s ∷ ss) ms = ap (after b′ (paintsOf ss)) (same-drawing (s .drawing) ms) ∙ same-drawings ss (paintedBy b (draw (s .drawing)) ms)
 
--- no stroke
-pub stroked-none : (b : GdiState) (ms : Memories) → Stroked b [] ms b ms
-unfolding after dirtiedBy paintsOf
-stroked-none b ms = record { state = refl; memories = refl }
-
 module _ {b : GdiState} {ss : List Stroke} {ms : Memories} {r : GdiState} {ms₁ : Memories} (x : Stroked b ss ms r ms₁) where
   -- the record after strokes: every surface in its place, and calls still looked at
   pub stroked-still : Still b r
@@ -64,6 +65,15 @@ module _ {b : GdiState} {ss : List Stroke} {ms : Memories} {r : GdiState} {ms₁
   pub stroked-ready : {n k n′ k′ : ℕ} → n′ ≡ n → k′ ≡ k → Ready b n k → Ready r n′ k′
   stroked-ready p q i = let t = stroked-still in record { sound = t .sound (i .sound); panel = p ∙ i .panel ∙ sym (t .panel-len); store = q ∙ i .store ∙ sym (t .store-len) }
 
+  -- a site that was found before them is one still
+  pub stroked-placed : {s : SurfaceId} {i : Site} → Placed b s i → Placed r s i
+  stroked-placed {s} w =
+      let t = stroked-still in
+      record {
+        same = w .same ∙ sym (ap₂ {C = Site} (λ at slot. record { at = at; slot = slot }) (t .places s) (rw (x .state) (dirtied-by-slot ss b s)));
+        within = rw (t .panel-len, t .store-len) (w .within);
+      }
+
   -- strokes, and then others
   pub stroked-then : {ts : List Stroke} {b′ : GdiState} {ms′ : Memories} → Stroked r ts ms₁ b′ ms′ → Stroked b (ss ++ ts) ms b′ ms′
   stroked-then {ts} y =
@@ -71,7 +81,3 @@ module _ {b : GdiState} {ss : List Stroke} {ms : Memories} {r : GdiState} {ms₁
         state = y .state ∙ ap (λ (z : GdiState). dirtiedBy z ts) (x .state) ∙ sym (dirtied-by-append ss ts b);
         memories = y .memories ∙ same-drawings b r (stroked-still .places) ts ms₁ ∙ ap (after b (paintsOf ts)) (x .memories) ∙ sym (painted-append b ss ts ms);
       }
-
-  -- strokes that were made are their plan followed
-  pub stroked-followed : (a : Answer) → Followed (drawnBy b ss a) b ms (record { state = r; answer = a }) ms₁
-  stroked-followed a = record { outcome = rw (x .state); memories = x .memories }

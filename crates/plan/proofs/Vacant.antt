@@ -19,7 +19,8 @@ use Rattle.gdi.specs.declared.Spot.{Spot}
 use Rattle.gdi.specs.declared.Spot.the-variants.{Screen, Created}
 use Rattle.gdi.specs.declared.DcFound.{DcFound}
 use Rattle.gdi.specs.declared.DcFound.the-variants.{Is, Absent}
-use Rattle.gdi.specs.Record.{noSlot, vacantSlot, bytesOf, storeOf}
+use Rattle.gdi.specs.Record.{noSlot, vacantSlot, bytesOf}
+use Rattle.gdi.specs.Updates.{withSides, withStockDirty, storeOf}
 use Rattle.gdi.specs.Stock.{isStock, stockBitmap}
 use Rattle.gdi.specs.Lookup.{slotAt, findOf, dcOf, kindOf}
 use Rattle.gdi.proofs.Scan.{found-count, dc-found}
@@ -30,20 +31,18 @@ use Rattle.ready.specs.Ready.{commonRefusal}
 use Rattle.ready.proofs.Ready.{ready}
 use Rattle.place.specs.declared.SurfaceId.{SurfaceId}
 use Rattle.place.specs.declared.SurfaceId.the-variants.{Panel, Bitmap}
-use Rattle.dirty.specs.Dirty.{framed, stockDirtied, createdDirtied, dirtied, dirtiedIf}
+use Rattle.dirty.specs.Dirty.{framed, createdDirtied, dirtied, dirtiedIf}
 use Rattle.handles.specs.Handles.{inserted, added}
 use Rattle.removal.specs.Removal.{withoutAt}
 use Rattle.plan.specs.declared.Call.{Call}
 use Rattle.plan.specs.declared.Call.the-variants.{CreateMemoryDc, CreateCompatibleBitmap, CreateSolidBrush, CreatePen, CreateFont, Delete, Remove, SelectInto, SetTextColor, SetTextAlign, SetBkColor, SetBkMode, PatternFill, Rectangle, Text, PanelFill, Resize, Blit}
-use Rattle.plan.specs.declared.Answer.{Answer}
-use Rattle.plan.specs.declared.Answer.the-variants.{Handle}
+use Rattle.plan.specs.Answer.{Parts, answered}
 use Rattle.plan.specs.Plan.{Plan, told, refuse}
 use Rattle.plan.specs.Stroke.{Stroke, dirtiedBy}
 use Rattle.plan.specs.Create.{made, newBitmap, createOf, createBitmap}
 use Rattle.plan.specs.Delete.{goneAt, goes}
 use Rattle.plan.specs.Select.{isOther, selectAt, selectInto}
 use Rattle.plan.specs.Settings.{settingAt, setting}
-use Rattle.plan.specs.Panel.{withSides}
 use Rattle.plan.specs.Calls.{act, plan}
 use Rattle.plan.specs.Vacant.{Vacant, StaysVacant}
 use Rattle.plan.proofs.Cases.{pattern-fill-by, rectangle-by, text-by, blit-by, resize-by}
@@ -97,7 +96,7 @@ module _ (b : GdiState) (sound : Sound b) (v : Vacant b) where
       by j le few (yes c) = closed-freed vacantSlot (b .objects) i 1 (b .count) (omega arith) fits noSlot j le c
       by j le few (no c) = closed-past vacantSlot (b .objects) i 1 (b .count) (omega arith) fits noSlot j (omega arith) ∙ v .vacant j (omega arith) few
 
-  goes-vacant : (stock : Answer) (gone : ℕ → Answer) (none : Answer) (h : ℕ) → Vacant (goes stock gone none b h .outcome .state)
+  goes-vacant : (stock : Parts) (gone : ℕ → Parts) (none : Parts) (h : ℕ) → Vacant (goes stock gone none b h .outcome .state)
   unfolding goes
   goes-vacant stock gone none h = by (isStock h) (findOf b h) refl
     where
@@ -117,12 +116,12 @@ module _ (b : GdiState) (sound : Sound b) (v : Vacant b) where
   unfolding selectInto
   select-vacant dc h = by (isOther (kindOf b h)) (dcOf b dc) refl
     where
-      by : (t : Bool) (q : DcFound) → dcOf b dc ≡ q → Vacant (cond t (told b (Handle 0)) (selectAt b dc h (kindOf b h) q) .outcome .state)
+      by : (t : Bool) (q : DcFound) → dcOf b dc ≡ q → Vacant (cond t (told b (answered 0)) (selectAt b dc h (kindOf b h) q) .outcome .state)
       by true q e = v
       by false (Is p d) e = stored-vacant dc p d _ e
       by false Absent e = v
 
-  setting-vacant : (old : Dc → Answer) (new : Dc → Dc) (dc : ℕ) → Vacant (setting old new b dc .outcome .state)
+  setting-vacant : (old : Dc → Parts) (new : Dc → Dc) (dc : ℕ) → Vacant (setting old new b dc .outcome .state)
   unfolding setting
   setting-vacant old new dc = by (dcOf b dc) refl
     where
@@ -139,7 +138,7 @@ unfolding dirtied
 dirtied-vacant b Panel v = framed-vacant b v
 dirtied-vacant b (Bitmap h) v = by (eqb h stockBitmap) (findOf b h) refl
   where
-    by : (t : Bool) (q : Found) → findOf b h ≡ q → Vacant (cond t (stockDirtied b) (createdDirtied b q))
+    by : (t : Bool) (q : Found) → findOf b h ≡ q → Vacant (cond t (withStockDirty b) (createdDirtied b q))
     by true q e = record { table = v .table; vacant = v .vacant }
     by false (At i) e =
         let lt : i < b .count = found-count b h e in

@@ -1,11 +1,11 @@
--- An answer's number and values.
+-- What a call answers, by number and values.
 use mathlib.Core.Bool.{Bool, false}
 use Prim.Native.Nat.{ℕ}
 use Rattle.gdi.specs.declared.GdiObject.{GdiObject}
 use Rattle.plan.specs.declared.Answer.{Answer}
 use Rattle.plan.specs.declared.Answer.the-variants.{Refused, Handle, Deleted, Removed, NotRemoved, OldColor, OldAlign, OldMode, Drawn, Advance}
 
--- a record that may be missing
+-- an object's record that may be missing
 pub data Object : Type 0 where
   none : Object
   some : GdiObject → Object
@@ -21,15 +21,32 @@ pub record Parts : Type 0 where
 abbrev parts : ℕ → ℕ → Bool → Object → Parts
 parts n v f o = record { number = n; value = v; flag = f; object = o }
 
--- a refusal gives its number, with every other part 0, false or none; an accepted call gives number 0 and its answer
+-- a refusal gives its number, with every other part 0, false or none
+abbrev pub refused : ℕ → Parts
+refused n = parts n 0 false none
+
+-- an accepted call gives number 0 and its answer: a value, a flag, an object, or nothing
+abbrev pub answered : ℕ → Parts
+answered v = parts 0 v false none
+
+abbrev pub flagged : Bool → Parts
+flagged f = parts 0 0 f none
+
+abbrev pub removed : GdiObject → Parts
+removed o = parts 0 0 false (some o)
+
+abbrev pub done : Parts
+done = parts 0 0 false none
+
+-- the parts of each case of the code's answer
 abbrev pub partsOf : Answer → Parts
-partsOf (Refused n) = parts n 0 false none
-partsOf (Handle h) = parts 0 h false none
-partsOf (Deleted f) = parts 0 0 f none
-partsOf (Removed o) = parts 0 0 false (some o)
-partsOf NotRemoved = parts 0 0 false none
-partsOf (OldColor c) = parts 0 (c .0) false none
-partsOf (OldAlign v) = parts 0 v false none
-partsOf (OldMode f) = parts 0 0 f none
-partsOf Drawn = parts 0 0 false none
-partsOf (Advance n) = parts 0 n false none
+partsOf (Refused n) = refused n
+partsOf (Handle h) = answered h
+partsOf (Deleted f) = flagged f
+partsOf (Removed o) = removed o
+partsOf NotRemoved = done
+partsOf (OldColor c) = answered (c .0)
+partsOf (OldAlign v) = answered v
+partsOf (OldMode f) = flagged f
+partsOf Drawn = done
+partsOf (Advance n) = answered n

@@ -1,19 +1,17 @@
--- The calls, each by its plan, behind the refusals that all share; and what it is that a call was performed.
+-- The calls, each by its plan, behind the refusals that all share.
 use mathlib.Core.Bool.{cond}
 use mathlib.Core.List.{List}
-use mathlib.Core.Path.{_≡_}
 use Prim.Native.Nat.{ℕ}
 use lib.Dec.{eqb}
 use lib.ListN.{length}
 use Rattle.gdi.specs.declared.GdiState.{GdiState}
 use Rattle.gdi.specs.declared.GdiObject.the-variants.{Dc, Brush, Pen, Font}
 use Rattle.gdi.specs.Record.{defaultDc}
+use Rattle.numbers.specs.View.{view, isRecord}
 use Rattle.ready.specs.Ready.{commonRefusal}
 use Rattle.plan.specs.declared.Call.{Call}
 use Rattle.plan.specs.declared.Call.the-variants.{CreateMemoryDc, CreateCompatibleBitmap, CreateSolidBrush, CreatePen, CreateFont, Delete, Remove, SelectInto, SetTextColor, SetTextAlign, SetBkColor, SetBkMode, PatternFill, Rectangle, Text, PanelFill, Resize, Blit}
-use Rattle.plan.specs.declared.Outcome.{Outcome}
 use Rattle.paint.specs.Memories.{Memories}
-use Rattle.paint.specs.Paint.{after}
 use Rattle.plan.specs.Plan.{Plan, refuse}
 use Rattle.plan.specs.Create.{createOf, createBitmap}
 use Rattle.plan.specs.Delete.{delete, remove}
@@ -50,21 +48,6 @@ plan c us b n k = cond (eqb (commonRefusal b n k) 0) (act c us b) (refuse (commo
 abbrev pub planOf : Call → (units : List ℕ) → GdiState → Memories → Plan
 planOf c us b ms = plan c us b (length (ms .panel)) (length (ms .store))
 
--- A plan was followed: the record with the answer, and both memories, are the plan's.
-pub record Followed (p : Plan) (b : GdiState) (ms : Memories) (r : Outcome) (ms′ : Memories) : Type 0 where
-  pub outcome : r ≡ p .outcome
-  pub memories : ms′ ≡ after b (p .paint) ms
-
--- A call was performed: its plan was followed.
-abbrev pub Performed : Call → (units : List ℕ) → GdiState → Memories → Outcome → Memories → Type 0
-Performed c units b ms r ms′ = Followed (planOf c units b ms) b ms r ms′
-
--- A plan was followed that leaves the panel memory alone.
-pub record Done (p : Plan) (b : GdiState) (store : List ℕ) (r : Outcome) (store′ : List ℕ) : Type 0 where
-  pub outcome : r ≡ p .outcome
-  pub memories : (panel : List ℕ) → record { panel = panel; store = store′ } ≡ after b (p .paint) (record { panel = panel; store = store })
-
--- A plan was followed that leaves the store alone.
-pub record DoneOnPanel (p : Plan) (b : GdiState) (panel : List ℕ) (r : Outcome) (panel′ : List ℕ) : Type 0 where
-  pub outcome : r ≡ p .outcome
-  pub memories : (store : List ℕ) → record { panel = panel′; store = store } ≡ after b (p .paint) (record { panel = panel; store = store })
+-- the plan of a call on a record lent as numbers: numbers that are no record are 9
+unfoldable pub planOn : Call → (units l : List ℕ) → (panel-len store-len : ℕ) → Plan
+planOn c us l n k = cond (isRecord l) (plan c us (view l) n k) (refuse 9 (view l))

@@ -7,23 +7,22 @@ use Rattle.gdi.specs.declared.Found.the-variants.{At, Nothing}
 use Rattle.gdi.specs.Stock.{isStock}
 use Rattle.gdi.specs.Lookup.{objectAt, findOf}
 use Rattle.removal.specs.Removal.{withoutAt}
-use Rattle.plan.specs.declared.Answer.{Answer}
-use Rattle.plan.specs.declared.Answer.the-variants.{Deleted, Removed, NotRemoved}
+use Rattle.plan.specs.Answer.{Parts, flagged, removed, done}
 use Rattle.paint.specs.Paint.{closing}
 use Rattle.plan.specs.Plan.{Plan, told}
 
-abbrev pub goneAt : (gone : ℕ → Answer) (none : Answer) → GdiState → ℕ → Found → Plan
+abbrev pub goneAt : (gone : ℕ → Parts) (none : Parts) → GdiState → ℕ → Found → Plan
 goneAt gone none b h (At i) = record { outcome = record { state = withoutAt b i; answer = gone i }; paint = closing b h i }
 goneAt gone none b h Nothing = told b none
 
 -- a stock object stays, a created one goes: the answers for a stock object, for the created object i, and for no object
-unfoldable pub goes : (stock : Answer) (gone : ℕ → Answer) (none : Answer) → GdiState → ℕ → Plan
+unfoldable pub goes : (stock : Parts) (gone : ℕ → Parts) (none : Parts) → GdiState → ℕ → Plan
 goes stock gone none b h = cond (isStock h) (told b stock) (goneAt gone none b h (findOf b h))
 
 -- stock true; absent false
 abbrev pub delete : GdiState → ℕ → Plan
-delete b h = goes (Deleted true) (λ i. Deleted true) (Deleted false) b h
+delete b h = goes (flagged true) (λ i. flagged true) (flagged false) b h
 
 -- stock or absent none; else the record without pixels
 abbrev pub remove : GdiState → ℕ → Plan
-remove b h = goes NotRemoved (λ i. Removed (objectAt b i)) NotRemoved b h
+remove b h = goes done (λ i. removed (objectAt b i)) done b h

@@ -5,10 +5,11 @@ use Prim.Native.Nat.{ℕ}
 use lib.Dec.{eqb, ltb}
 use Rattle.gdi.specs.declared.GdiState.{GdiState}
 use Rattle.gdi.specs.Record.{size}
+use Rattle.gdi.specs.Updates.{withSides}
 use Rattle.place.specs.declared.Memory.the-variants.{Panel as PanelMemory}
 use Rattle.place.specs.declared.SurfaceId.the-variants.{Panel}
 use Rattle.dirty.specs.Dirty.{dirtied}
-use Rattle.plan.specs.declared.Answer.the-variants.{Drawn}
+use Rattle.plan.specs.Answer.{done}
 use Rattle.paint.specs.Paint.{Paint, blank, only}
 use Rattle.plan.specs.Plan.{Plan, told, refuse}
 use Rattle.plan.specs.Stroke.{Stroke, drawnBy}
@@ -19,27 +20,11 @@ abbrev pub panelFillStroke : (color : ℕ) → Stroke
 panelFillStroke c = record { drawing = solid Panel (λ x y. true) c; due = true }
 
 abbrev pub panelFill : GdiState → (color : ℕ) → Plan
-panelFill b c = drawnBy b (panelFillStroke c ∷ []) Drawn
-
--- the record with other panel sides
-abbrev pub withSides : GdiState → (width height : ℕ) → GdiState
-withSides b w h =
-    record {
-      «panel_len» = b .«panel_len»;
-      «store_len» = b .«store_len»;
-      width = w;
-      height = h;
-      «frame_counter» = b .«frame_counter»;
-      «next_handle» = b .«next_handle»;
-      screen = b .screen;
-      «stock_dirty» = b .«stock_dirty»;
-      count = b .count;
-      objects = b .objects;
-    }
+panelFill b c = drawnBy b (panelFillStroke c ∷ []) done
 
 -- the panel turns black and marks once; b is the record before the mark, and the paints make the panel black
 abbrev pub turnedBlack : GdiState → List Paint → Plan
-turnedBlack b ps = record { outcome = record { state = dirtied b Panel; answer = Drawn }; paint = ps }
+turnedBlack b ps = record { outcome = record { state = dirtied b Panel; answer = done }; paint = ps }
 
 -- an effective resize: the panel at its new size turns black; bytes past it are kept
 abbrev pub resized : GdiState → (width height : ℕ) → Plan
@@ -52,7 +37,7 @@ noEffect b w h = (eqb w 0 || eqb h 0) || (eqb w (b .width) && eqb h (b .height))
 -- does nothing; else 6 a side above 4,096, then 7 panel memory too short
 unfoldable pub resize : GdiState → (width height : ℕ) → Plan
 resize b w h =
-    cond (noEffect b w h) (told b Drawn) (
+    cond (noEffect b w h) (told b done) (
     cond (ltb 4096 w || ltb 4096 h) (refuse 6 b) (
     cond (ltb (b .«panel_len») (size w h)) (refuse 7 b)
     (resized b w h)))

@@ -2,20 +2,23 @@
 use mathlib.Core.List.{List, []}
 use Prim.Native.Nat.{ℕ}
 use Rattle.gdi.specs.declared.GdiState.{GdiState}
-use Rattle.plan.specs.declared.Answer.{Answer}
-use Rattle.plan.specs.declared.Answer.the-variants.{Refused}
-use Rattle.plan.specs.declared.Outcome.{Outcome}
+use Rattle.plan.specs.Answer.{Parts, refused}
 use Rattle.paint.specs.Paint.{Paint}
 
--- The record after with the answer, and the paints.
+-- The record after, and the answer.
+pub record Outcome : Type 0 where
+  pub state : GdiState
+  pub answer : Parts
+
+-- The outcome, and the paints.
 pub record Plan : Type 0 where
   pub outcome : Outcome
   pub paint : List Paint
 
 -- no byte changes: the record and the answer
-abbrev pub told : GdiState → Answer → Plan
+abbrev pub told : GdiState → Parts → Plan
 told b a = record { outcome = record { state = b; answer = a }; paint = [] }
 
 -- a refusal changes no byte and no field
 abbrev pub refuse : ℕ → GdiState → Plan
-refuse n b = told b (Refused n)
+refuse n b = told b (refused n)

@@ -4,13 +4,12 @@ use mathlib.Core.Path.{_≡_}
 use Prim.Native.Nat.{ℕ}
 use Rattle.gdi.specs.declared.GdiState.{GdiState}
 use Rattle.plan.specs.declared.Call.{Call}
-use Rattle.plan.specs.Answer.{partsOf}
 use Rattle.plan.specs.Plan.{Plan, refuse}
 use Rattle.plan.specs.Calls.{plan}
 
 -- the number of a plan's answer
 abbrev pub numberOf : Plan → ℕ
-numberOf p = partsOf (p .outcome .answer) .number
+numberOf p = p .outcome .answer .number
 
 -- A refusal gives its number, with every other part of the answer 0, false or none, and changes no byte and no field.
 abbrev pub RefusalsKeep : Type 0

@@ -6,7 +6,7 @@ use Rattle.gdi.specs.declared.GdiState.{GdiState}
 use Rattle.dirty.specs.Dirty.{dirtiedIf}
 use Rattle.paint.specs.Memories.{Memories}
 use Rattle.paint.specs.Paint.{Draw, Paint, draw, after}
-use Rattle.plan.specs.declared.Answer.{Answer}
+use Rattle.plan.specs.Answer.{Parts}
 use Rattle.plan.specs.Plan.{Plan}
 
 -- One drawing, and whether it makes a dirty mark on the surface that it draws on.
@@ -26,7 +26,7 @@ paintsOf (s ∷ ss) = draw (s .drawing) ∷ paintsOf ss
 
 -- The plan of an accepted drawing call, whatever it draws: the record and the paints follow from its strokes, here and nowhere
 -- else.
-abbrev pub drawnBy : GdiState → List Stroke → Answer → Plan
+abbrev pub drawnBy : GdiState → List Stroke → Parts → Plan
 drawnBy b ss a = record { outcome = record { state = dirtiedBy b ss; answer = a }; paint = paintsOf ss }
 
 -- Strokes were made: the record after has their dirty marks, and the memories after have their drawings.

@@ -3,7 +3,6 @@
 use color::Colorref;
 use color::Rgb565;
 use gdi::GdiObject;
-use gdi::GdiState;
 
 // The w by h pixels at x, y.
 pub struct Area {
@@ -100,16 +99,4 @@ pub enum Answer {
     Drawn,
     // The text's advance: 6 times its units.
     Advance(u32),
-}
-
-// The record after a call, and the answer.
-pub struct Outcome {
-    pub state: GdiState,
-    pub answer: Answer,
-}
-
-// What open answers: the record, and the number of the refusal, 0 if there is none.
-pub struct Opened {
-    pub state: GdiState,
-    pub refusal: u32,
 }

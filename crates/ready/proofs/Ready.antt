@@ -1,5 +1,6 @@
 -- Laws of the refusals that every call shares: when there is none, and its cases. Assumes nothing.
 use mathlib.Core.Bool.{Bool, true, false, cond, _&&_}
+use mathlib.Core.List.{List}
 use mathlib.Core.Path.{_≡_, refl, sym, _∙_}
 use Prim.Native.Nat.{ℕ}
 use native.Mathlib.Omega.{arith}
@@ -7,7 +8,8 @@ use lib.Dec.{eqb}
 use borrow.Author.Tests.{eqb-true, eq-eqb, ne-eqb}
 use Rattle.gdi.specs.declared.GdiState.{GdiState}
 use Rattle.sound.specs.Sound.{isSound}
-use Rattle.ready.specs.Ready.{commonRefusal, Ready}
+use Rattle.numbers.specs.View.{view, isRecord}
+use Rattle.ready.specs.Ready.{commonRefusal, Ready, commonRefusalOn, Lent}
 
 -- the cases
 module _ (b : GdiState) (n k : ℕ) where
@@ -42,3 +44,29 @@ ready b n k no₀ e z = by (isSound b) refl (eqb n (b .«panel_len»)) refl (eqb
 
 pub looks : {b : GdiState} {n k : ℕ} → Ready b n k → commonRefusal b n k ≡ 0
 looks {b} {n} {k} r = sym (none-other b n k (r .sound) (r .panel) (r .store))
+
+-- the same of a record lent as numbers
+module _ (l : List ℕ) (n k : ℕ) where
+  pub of-record : {no₀ : ℕ} → isRecord l ≡ true → no₀ ≡ commonRefusal (view l) n k → no₀ ≡ commonRefusalOn l n k
+  of-record r e = rw r e
+
+  pub no-record : isRecord l ≡ false → 9 ≡ commonRefusalOn l n k
+  no-record r = rw r
+
+  pub lent : (no₀ : ℕ) → no₀ ≡ commonRefusalOn l n k → no₀ ≡ 0 → Lent l n k
+  lent no₀ e z = by (isRecord l) refl e
+    where
+      by : (t : Bool) → isRecord l ≡ t → no₀ ≡ cond t (commonRefusal (view l) n k) 9 → Lent l n k
+      by true r f = record { is-record = r; ready = ready (view l) n k no₀ f z }
+      by false r f = absurd (omega (arith, f, z))
+
+-- a call that is lent one memory, or none, may take the other's length for the record's own
+module _ {l : List ℕ} {n k : ℕ} (i : Lent l n k) where
+  pub store-lent : Lent l (view l .«panel_len») k
+  store-lent = record { is-record = i .is-record; ready = record { sound = i .ready .sound; panel = refl; store = i .ready .store } }
+
+  pub panel-lent : Lent l n (view l .«store_len»)
+  panel-lent = record { is-record = i .is-record; ready = record { sound = i .ready .sound; panel = i .ready .panel; store = refl } }
+
+  pub record-lent : Lent l (view l .«panel_len») (view l .«store_len»)
+  record-lent = record { is-record = i .is-record; ready = record { sound = i .ready .sound; panel = refl; store = refl } }

@@ -1,9 +1,11 @@
 -- The refusals that every call after open shares.
-use mathlib.Core.Bool.{Bool, true, cond, _&&_}
+use mathlib.Core.Bool.{true, cond, _&&_}
+use mathlib.Core.List.{List}
 use mathlib.Core.Path.{_≡_}
 use Prim.Native.Nat.{ℕ}
 use lib.Dec.{eqb}
 use Rattle.gdi.specs.declared.GdiState.{GdiState}
+use Rattle.numbers.specs.View.{view, isRecord}
 use Rattle.sound.specs.Sound.{isSound}
 
 -- 9 record unsound; then 8 a lent memory's length is not the record's; 0 if calls are looked at
@@ -15,3 +17,16 @@ pub record Ready (b : GdiState) (panel-len store-len : ℕ) : Type 0 where
   pub sound : isSound b ≡ true
   pub panel : panel-len ≡ b .«panel_len»
   pub store : store-len ≡ b .«store_len»
+
+-- the same of a record lent as numbers: numbers that are no record are 9
+abbrev pub commonRefusalOn : (l : List ℕ) → (panel-len store-len : ℕ) → ℕ
+commonRefusalOn l n k = cond (isRecord l) (commonRefusal (view l) n k) 9
+
+-- the same where only the panel memory is lent: the store's length is the record's own
+abbrev pub panelRefusalOn : (l : List ℕ) → (panel-len : ℕ) → ℕ
+panelRefusalOn l n = commonRefusalOn l n (view l .«store_len»)
+
+-- What every call under these refusals counts on: numbers that are a record, and calls on it are looked at.
+pub record Lent (l : List ℕ) (panel-len store-len : ℕ) : Type 0 where
+  pub is-record : isRecord l ≡ true
+  pub ready : Ready (view l) panel-len store-len

@@ -1,7 +1,21 @@
-// The refusals that every call after open shares.
+// The record check of a record lent as numbers, and the refusals that every call after open shares.
 ghost use mathlib.Core.Path.{_≡_};
-ghost use Rattle.ready.specs.Ready.{commonRefusal};
-use gdi::GdiState;
+ghost use mathlib.Core.Bool.{true};
+ghost use Prim.Native.Nat.{_<_};
+ghost use Rattle.gdi.specs.Lookup.{handleAt};
+ghost use Rattle.numbers.specs.Layout.{countPlace};
+ghost use Rattle.numbers.specs.Block.{at};
+ghost use Rattle.numbers.specs.View.{view, isRecord};
+ghost use Rattle.sound.specs.Sound.{absent, distinct, ascending, isSound};
+ghost use Rattle.ready.specs.Ready.{commonRefusal, commonRefusalOn, panelRefusalOn};
+use numbers::COUNT;
+use numbers::HEIGHT;
+use numbers::PANEL_LEN;
+use numbers::SLOT;
+use numbers::SLOTS;
+use numbers::STORE_LEN;
+use numbers::WIDTH;
+use sound::MAX_MEMORY;
 
 // The refusal of an unsound record.
 pub const UNSOUND_RECORD: u32 = 9;
@@ -9,15 +23,131 @@ pub const UNSOUND_RECORD: u32 = 9;
 // The refusal of a memory whose length is not the record's.
 pub const OTHER_LENGTH: u32 = 8;
 
-// The number with which every call is refused, 0 if calls are looked at.
-pub fn common_refusal(state: GdiState, panel_len: usize, store_len: usize) -> u32
-    ensures { λ r. ⌜ r ≡ commonRefusal state «panel_len» «store_len» ⌝ }
+// Whether the record is sound.
+pub fn is_sound(l: &[u32]) -> bool
+    requires { ⌜ isRecord (now l) ≡ true ⌝ }
+    ensures { λ r. ⌜ r ≡ isSound (view (now (l .entry))) ⌝ }
 {
-    if record_check::is_sound(state) {
-        if panel_len != state.panel_len {
+    let panel_len = l[PANEL_LEN] as usize;
+    if panel_len > MAX_MEMORY {
+        return false;
+    }
+    let store_len = l[STORE_LEN] as usize;
+    if store_len > MAX_MEMORY {
+        return false;
+    }
+    if !surface::is_side(l[WIDTH]) {
+        return false;
+    }
+    if !surface::is_side(l[HEIGHT]) {
+        return false;
+    }
+    let w = l[WIDTH] as usize;
+    let h = l[HEIGHT] as usize;
+    if 2 * (w * h) > panel_len {
+        return false;
+    }
+    if !sound::slots_fit(l) {
+        return false;
+    }
+    if !handles_differ(l) {
+        return false;
+    }
+    let count = l[COUNT] as usize;
+    sound::start_of(l, count) <= store_len
+}
+
+// Whether each handle is above the one before it, as it is until handles have gone round.
+fn is_ascending(l: &[u32]) -> bool
+    requires { ⌜ isRecord (now l) ≡ true ⌝ }
+    ensures { λ r. ⌜ r ≡ ascending (view (now (l .entry)) .objects) (view (now (l .entry)) .count) ⌝ }
+{
+    let n = l[COUNT] as usize;
+    let mut i: usize = 1;
+    while i < n {
+        let p = SLOTS + SLOT * i;
+        if l[p] <= l[p - SLOT] {
+            return false;
+        }
+        i += 1;
+    }
+    true
+}
+
+// Whether none of the first k handles is the k-th.
+fn is_absent(l: &[u32], k: usize) -> bool
+    requires { ⌜ isRecord (now l) ≡ true ⌝ }
+    requires { ⌜ k < at (now l) countPlace ⌝ }
+    ensures { λ r. ⌜ r ≡ absent (view (now (l .entry)) .objects) k (handleAt (view (now (l .entry)) .objects) k) ⌝ }
+{
+    let h = l[SLOTS + SLOT * k];
+    let mut j: usize = 0;
+    while j < k {
+        if l[SLOTS + SLOT * j] == h {
+            return false;
+        }
+        j += 1;
+    }
+    true
+}
+
+// Whether the handles of all pairs differ.
+fn all_pairs_differ(l: &[u32]) -> bool
+    requires { ⌜ isRecord (now l) ≡ true ⌝ }
+    ensures { λ r. ⌜ r ≡ distinct (view (now (l .entry)) .objects) (view (now (l .entry)) .count) ⌝ }
+{
+    let n = l[COUNT] as usize;
+    let mut k: usize = 0;
+    while k < n {
+        if !is_absent(l, k) {
+            return false;
+        }
+        k += 1;
+    }
+    true
+}
+
+// Whether the handles differ: all pairs are looked at only where the handles do not ascend.
+fn handles_differ(l: &[u32]) -> bool
+    requires { ⌜ isRecord (now l) ≡ true ⌝ }
+    ensures { λ r. ⌜ r ≡ distinct (view (now (l .entry)) .objects) (view (now (l .entry)) .count) ⌝ }
+{
+    if is_ascending(l) {
+        return true;
+    }
+    all_pairs_differ(l)
+}
+
+// The number with which every call is refused, 0 if calls are looked at.
+pub fn common_refusal(l: &[u32], panel_len: usize, store_len: usize) -> u32
+    ensures { λ r. ⌜ r ≡ commonRefusalOn (now (l .entry)) «panel_len» «store_len» ⌝ }
+{
+    if well_formed::is_record(l) {
+        return record_refusal(l, panel_len, store_len);
+    }
+    UNSOUND_RECORD
+}
+
+// The same where only the panel memory is lent: the store's length is the record's own.
+pub fn panel_refusal(l: &[u32], panel_len: usize) -> u32
+    ensures { λ r. ⌜ r ≡ panelRefusalOn (now (l .entry)) «panel_len» ⌝ }
+{
+    if well_formed::is_record(l) {
+        return record_refusal(l, panel_len, l[STORE_LEN] as usize);
+    }
+    UNSOUND_RECORD
+}
+
+// The same of numbers that are a record.
+fn record_refusal(l: &[u32], panel_len: usize, store_len: usize) -> u32
+    requires { ⌜ isRecord (now l) ≡ true ⌝ }
+    ensures { λ r. ⌜ r ≡ commonRefusal (view (now (l .entry))) «panel_len» «store_len» ⌝ }
+{
+    if is_sound(l) {
+        if panel_len != l[PANEL_LEN] as usize {
             return OTHER_LENGTH;
         }
-        if store_len != state.store_len {
+        if store_len != l[STORE_LEN] as usize {
             return OTHER_LENGTH;
         }
         return 0;

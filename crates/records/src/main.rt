@@ -4,6 +4,9 @@ mod read;
 mod same;
 mod tried;
 
+ghost use mathlib.Core.Path.{_≡_};
+ghost use lib.ListN.{length};
+ghost use Rattle.numbers.specs.Layout.{recordSize};
 use libc::STDIN_FILENO;
 use tried::Told;
 
@@ -23,7 +26,8 @@ fn main() {
 // The whole of a stream.
 fn run(s: &[u8]) {
     if begins_well(s) {
-        try_all(s);
+        let mut l = [0u32; numbers::RECORD];
+        try_all(s, &mut l);
     } else {
         lines::empty().text(b"bad script").print();
     }
@@ -40,17 +44,19 @@ fn begins_well(s: &[u8]) -> bool {
     bigendian::read_u32(s, 0) == MAGIC
 }
 
-// A line for each record; a bad one ends them.
-fn try_all(s: &[u8]) {
+// A line for each record, whose numbers are put into `l`; a bad one ends them.
+fn try_all(s: &[u8], l: &mut [u32])
+    requires { ⌜ length (now l) ≡ recordSize ⌝ }
+{
     let mut at: usize = 4;
     let mut i: u64 = 0;
     while at < s.len() {
-        let case = read::record(s, at);
+        let case = read::record(s, at, l);
         if case.bad {
             lines::empty().text(b"bad record").print();
             return;
         }
-        print_told(i, tried::on_memories(case));
+        print_told(i, tried::on_memories(l, case));
         at = case.next;
         i += 1;
     }

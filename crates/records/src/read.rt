@@ -1,6 +1,8 @@
-// Bench records as bytes, numbers most significant byte first.
+// Bench records as bytes, numbers most significant byte first, put into a record's numbers.
+ghost use mathlib.Core.Path.{_≡_};
 ghost use Prim.Native.Nat.{_≤_, _<_, _+_};
 ghost use lib.ListN.{length};
+ghost use Rattle.numbers.specs.Layout.{recordSize};
 ghost use Rattle.records.specs.Records.{Behind, Within, Taken};
 use color::Colorref;
 use gdi::Bitmap;
@@ -9,11 +11,13 @@ use gdi::Dc;
 use gdi::DcSurface;
 use gdi::Font;
 use gdi::GdiObject;
-use gdi::GdiState;
 use gdi::MAX_OBJECTS;
 use gdi::Pen;
 use gdi::SelectedBitmap;
 use gdi::Slot;
+use numbers::SCREEN;
+use numbers::SLOT;
+use numbers::SLOTS;
 
 // The longest memory that is lent.
 pub const MOST_LENT: usize = 65_536;
@@ -21,19 +25,17 @@ pub const MOST_LENT: usize = 65_536;
 // The bytes before a record's slots.
 const HEAD: usize = 48;
 
-// A record, the lengths of the memories lent with it, and the byte behind it; or a bad one.
+// The lengths of the memories lent with a record, and the byte behind it; or a bad one.
 pub struct Case {
     pub bad: bool,
-    pub state: GdiState,
     pub panel_lent: usize,
     pub store_lent: usize,
     pub next: usize,
 }
 
-// A record with its slots, and the byte behind them; or a bad one.
+// The byte behind a record's slots; or a bad one.
 pub struct Slots {
     pub bad: bool,
-    pub state: GdiState,
     pub next: usize,
 }
 
@@ -53,9 +55,9 @@ struct Settings {
     transparent: bool,
 }
 
-// The record at `at`.
-pub fn record(s: &[u8], at: usize) -> Case
-    requires { ⌜ at < length (now s) ⌝ }
+// Puts the numbers of the record at `at`.
+pub fn record(s: &[u8], at: usize, l: &mut [u32]) -> Case
+    requires { ⌜ (at < length (now s)) × (length (now l) ≡ recordSize) ⌝ }
     ensures { λ r. ⌜ Taken (at + 1) (length (now (s .entry))) r ⌝ }
 {
     let n = s.len();
@@ -72,29 +74,29 @@ pub fn record(s: &[u8], at: usize) -> Case
     if given > MAX_OBJECTS {
         return bad(n);
     }
-    let slots = read_slots(s, at + HEAD, numbers(s, at), given);
+    put_head(s, at, l);
+    put_vacant(l);
+    let slots = put_slots(s, at + HEAD, given, l);
     if slots.bad {
         return bad(n);
     }
-    with_lengths(s, slots.next, slots.state)
+    lent(s, slots.next)
 }
 
 // A bad record, which takes all that is left of a stream of n bytes.
 fn bad(n: usize) -> Case
     ensures { λ r. ⌜ Taken n n r ⌝ }
 {
-    let state = gdi::fresh_state(0, 0, 0, 0);
     Case {
         bad: true,
-        state,
         panel_lent: 0,
         store_lent: 0,
         next: n,
     }
 }
 
-// The record with the lent lengths at `at`.
-fn with_lengths(s: &[u8], at: usize, state: GdiState) -> Case
+// The lent lengths at `at`.
+fn lent(s: &[u8], at: usize) -> Case
     requires { ⌜ at ≤ length (now s) ⌝ }
     ensures { λ r. ⌜ Taken at (length (now (s .entry))) r ⌝ }
 {
@@ -112,73 +114,94 @@ fn with_lengths(s: &[u8], at: usize, state: GdiState) -> Case
     }
     Case {
         bad: false,
-        state,
         panel_lent,
         store_lent,
         next: at + 8,
     }
 }
 
-// A record without slots, of the numbers from `at` on.
-fn numbers(s: &[u8], at: usize) -> GdiState
-    requires { ⌜ at + 48 ≤ length (now s) ⌝ }
+// Puts the numbers of a record that stand in front of its slots, read from `at` on.
+fn put_head(s: &[u8], at: usize, l: &mut [u32])
+    requires { ⌜ (at + 48 ≤ length (now s)) × (length (now l) ≡ recordSize) ⌝ }
 {
-    let panel_len = read_u64(s, at) as usize;
-    let store_len = read_u64(s, at + 8) as usize;
-    let width = bigendian::read_u32(s, at + 16);
-    let height = bigendian::read_u32(s, at + 20);
-    let mut state = gdi::fresh_state(panel_len, store_len, width, height);
-    state.frame_counter = read_u64(s, at + 24);
-    state.next_handle = bigendian::read_u32(s, at + 32);
-    with_flags(s, at, state)
+    put_sizes(s, at, l);
+    put_counters(s, at, l);
+    put_flags(s, at, l);
 }
 
-// The record with the stock bitmap's mark, the screen DC's surface and the count of the numbers from `at` on.
-fn with_flags(s: &[u8], at: usize, state: GdiState) -> GdiState
-    requires { ⌜ at + 48 ≤ length (now s) ⌝ }
+// Puts the memories' lengths and the panel's sides.
+fn put_sizes(s: &[u8], at: usize, l: &mut [u32])
+    requires { ⌜ (at + 48 ≤ length (now s)) × (length (now l) ≡ recordSize) ⌝ }
+{
+    l[numbers::PANEL_LEN] = read_most(s, at);
+    l[numbers::STORE_LEN] = read_most(s, at + 8);
+    l[numbers::WIDTH] = bigendian::read_u32(s, at + 16);
+    l[numbers::HEIGHT] = bigendian::read_u32(s, at + 20);
+}
+
+// Puts the frame counter, the next handle and the count.
+fn put_counters(s: &[u8], at: usize, l: &mut [u32])
+    requires { ⌜ (at + 48 ≤ length (now s)) × (length (now l) ≡ recordSize) ⌝ }
+{
+    l[numbers::FRAMES_HIGH] = bigendian::read_u32(s, at + 24);
+    l[numbers::FRAMES_LOW] = bigendian::read_u32(s, at + 28);
+    l[numbers::NEXT_HANDLE] = bigendian::read_u32(s, at + 32);
+    l[numbers::COUNT] = read_most(s, at + 38);
+}
+
+// Puts the stock bitmap's mark, and the screen DC with its surface.
+fn put_flags(s: &[u8], at: usize, l: &mut [u32])
+    requires { ⌜ (at + 48 ≤ length (now s)) × (length (now l) ≡ recordSize) ⌝ }
 {
     let screen = gdi::dc_on(surface_of(s[at + 37]));
-    let mut flagged = state;
-    flagged.stock_dirty = s[at + 36] == 1;
-    flagged.screen = screen;
-    flagged.count = read_u64(s, at + 38) as usize;
-    flagged
+    encode::put_dc(&mut l[SCREEN..SLOTS], screen);
+    l[numbers::STOCK_DIRTY] = numbers::flag_number(s[at + 36] == 1);
 }
 
-// The number in the eight bytes from `at` on.
-fn read_u64(s: &[u8], at: usize) -> u64
+// The number in the eight bytes from `at` on, a length or a count. One of over 32 bits is 0xFFFF_FFFF, refused with 9 as it is.
+fn read_most(s: &[u8], at: usize) -> u32
     requires { ⌜ at + 8 ≤ length (now s) ⌝ }
 {
-    let hi = bigendian::read_u32(s, at) as u64;
-    let lo = bigendian::read_u32(s, at + 4) as u64;
-    0x1_0000_0000 * hi + lo
+    if bigendian::read_u32(s, at) != 0 {
+        return 0xFFFF_FFFF;
+    }
+    bigendian::read_u32(s, at + 4)
 }
 
-// The record with the n slots from `at` on as its first ones.
-fn read_slots(s: &[u8], at: usize, state: GdiState, n: usize) -> Slots
-    requires { ⌜ (at ≤ length (now s)) × (n ≤ 256) ⌝ }
+// Puts a vacant slot in each place.
+fn put_vacant(l: &mut [u32])
+    requires { ⌜ length (now l) ≡ recordSize ⌝ }
+{
+    for k in 0usize..MAX_OBJECTS {
+        put_slot(l, k, gdi::vacant_slot());
+    }
+}
+
+// Puts slot k.
+fn put_slot(l: &mut [u32], k: usize, slot: Slot)
+    requires { ⌜ (length (now l) ≡ recordSize) × (k < 256) ⌝ }
+{
+    let p = SLOTS + SLOT * k;
+    let e = p + SLOT;
+    encode::put_slot(&mut l[p..e], slot);
+}
+
+// Puts the n slots from `at` on as the first ones.
+fn put_slots(s: &[u8], at: usize, n: usize, l: &mut [u32]) -> Slots
+    requires { ⌜ (at ≤ length (now s)) × ((n ≤ 256) × (length (now l) ≡ recordSize)) ⌝ }
     ensures { λ r. ⌜ Behind at (length (now (s .entry))) r ⌝ }
 {
-    let mut out = state;
     let mut next = at;
     for k in 0..n {
         match read_slot(s, next) {
-            SlotRead::Bad => return Slots {
-                bad: true,
-                state: out,
-                next,
-            },
+            SlotRead::Bad => return Slots { bad: true, next },
             SlotRead::Is(slot, end) => {
-                out.objects[k] = slot;
+                put_slot(l, k, slot);
                 next = end;
             }
         }
     }
-    Slots {
-        bad: false,
-        state: out,
-        next,
-    }
+    Slots { bad: false, next }
 }
 
 // The slot at `at`: handle, kind, fields.

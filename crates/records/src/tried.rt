@@ -2,18 +2,18 @@
 use crate::read;
 use crate::read::Case;
 use crate::same;
+ghost use mathlib.Core.Path.{_≡_};
 ghost use Prim.Native.Nat.{_≤_};
 ghost use lib.ListN.{length};
+ghost use Rattle.numbers.specs.Layout.{recordSize};
 use color::Colorref;
 use color::Rgb565;
 use gdi::GDI_HANDLE_BASE;
 use gdi::GDI_SCREEN_DC;
-use gdi::GdiState;
 use gdi::STOCK_GRAY_BRUSH;
 use plan::Answer;
 use plan::Area;
 use plan::Call;
-use plan::Outcome;
 use plan::Point;
 
 // As many tries there are: each of the eighteen calls, and blit by a second code.
@@ -36,43 +36,45 @@ struct Crcs {
 }
 
 // What the calls say of a record, on memories of the lengths that are lent with it.
-pub fn on_memories(case: Case) -> Told
+pub fn on_memories(l: &[u32], case: Case) -> Told
+    requires { ⌜ length (now l) ≡ recordSize ⌝ }
     requires { ⌜ (case .«panel_lent» ≤ 65536) × (case .«store_lent» ≤ 65536) ⌝ }
 {
     let mut panel = [0u8; read::MOST_LENT];
     let mut store = [0u8; read::MOST_LENT];
-    on_parts(case, &mut panel, &mut store)
+    on_parts(l, case, &mut panel, &mut store)
 }
 
 // The same on the first bytes of longer memories.
-fn on_parts(case: Case, panel: &mut [u8], store: &mut [u8]) -> Told
+fn on_parts(l: &[u32], case: Case, panel: &mut [u8], store: &mut [u8]) -> Told
+    requires { ⌜ length (now l) ≡ recordSize ⌝ }
     requires { ⌜ (case .«panel_lent» ≤ length (now panel)) × (case .«store_lent» ≤ length (now store)) ⌝ }
 {
     let panel_lent = case.panel_lent;
     let store_lent = case.store_lent;
-    by_all(
-        case.state,
-        &mut panel[0..panel_lent],
-        &mut store[0..store_lent],
-    )
+    by_all(l, &mut panel[0..panel_lent], &mut store[0..store_lent])
 }
 
 // What all calls say, each on the record as it is and on fresh memories.
-fn by_all(state: GdiState, panel: &mut [u8], store: &mut [u8]) -> Told {
+fn by_all(l: &[u32], panel: &mut [u8], store: &mut [u8]) -> Told
+    requires { ⌜ length (now l) ≡ recordSize ⌝ }
+{
     fill(panel);
     fill(store);
     let was = crcs_of(panel, store);
-    let first = by_one(state, 0, was, panel, store);
+    let first = by_one(l, 0, was, panel, store);
     let Told::Number(no) = first else {
         return first;
     };
-    by_others(state, no, was, panel, store)
+    by_others(l, no, was, panel, store)
 }
 
 // What all calls say if the first says this number.
-fn by_others(state: GdiState, no: u32, was: Crcs, panel: &mut [u8], store: &mut [u8]) -> Told {
+fn by_others(l: &[u32], no: u32, was: Crcs, panel: &mut [u8], store: &mut [u8]) -> Told
+    requires { ⌜ length (now l) ≡ recordSize ⌝ }
+{
     for k in 1u8..TRIES {
-        let next = by_one(state, k, was, panel, store);
+        let next = by_one(l, k, was, panel, store);
         let Told::Number(other) = next else {
             return next;
         };
@@ -83,17 +85,34 @@ fn by_others(state: GdiState, no: u32, was: Crcs, panel: &mut [u8], store: &mut 
     Told::Number(no)
 }
 
-// What try k says. The memories, filled, have these CRCs.
-fn by_one(state: GdiState, k: u8, was: Crcs, panel: &mut [u8], store: &mut [u8]) -> Told {
+// What try k says, on a copy of the record. The memories, filled, have these CRCs.
+fn by_one(l: &[u32], k: u8, was: Crcs, panel: &mut [u8], store: &mut [u8]) -> Told
+    requires { ⌜ length (now l) ≡ recordSize ⌝ }
+{
+    let mut copy = [0u32; numbers::RECORD];
+    same::copy(l, &mut copy);
+    on_copy(l, &mut copy, k, was, panel, store)
+}
+
+// What try k says, on this copy of the record.
+fn on_copy(
+    l: &[u32],
+    copy: &mut [u32],
+    k: u8,
+    was: Crcs,
+    panel: &mut [u8],
+    store: &mut [u8],
+) -> Told
+    requires { ⌜ length (now copy) ≡ length (now l) ⌝ }
+{
     fill(panel);
     fill(store);
-    let outcome = perform::perform(state, call(k), &UNITS, panel, store);
-    let no = common_refusal(outcome);
+    let no = common_refusal(perform::perform(copy, call(k), &UNITS, panel, store));
     if no == 0 {
         return Told::Number(0);
     }
     if same_crcs(was, crcs_of(panel, store)) {
-        if same::records(state, outcome.state) {
+        if same::are_same(l, copy) {
             return Told::Number(no);
         }
     }
@@ -117,8 +136,7 @@ fn same_crcs(a: Crcs, b: Crcs) -> bool {
 }
 
 // The number with which all calls are to refuse the record, 0 if this one does not.
-fn common_refusal(outcome: Outcome) -> u32 {
-    let a = outcome.answer;
+fn common_refusal(a: Answer) -> u32 {
     match a {
         Answer::Refused(no) => shared(no),
         _ => 0,

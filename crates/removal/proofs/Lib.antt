@@ -1,3 +1,4 @@
-pub mod Slots
 pub mod Shifts
 pub mod Sound
+pub mod Without
+pub mod Gaps

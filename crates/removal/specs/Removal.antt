@@ -1,7 +1,8 @@
 -- The record without one of its objects.
 use Prim.Native.Nat.{ℕ, _-_}
 use Rattle.gdi.specs.declared.GdiState.{GdiState}
-use Rattle.gdi.specs.Record.{vacantSlot, withObjects}
+use Rattle.gdi.specs.Record.{vacantSlot}
+use Rattle.gdi.specs.Updates.{withObjects}
 use Rattle.memory.specs.Gap.{closedUp}
 
 -- the record without object i: later ones move down by one slot, and the slot that the last one leaves is vacant

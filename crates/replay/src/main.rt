@@ -67,11 +67,12 @@ fn serve(s: &[u8], h: Header, picture: bool) {
     lend(s, h, picture);
 }
 
-// Lends memories of the lengths that the header asks for.
+// Lends a record's numbers, and memories of the lengths that the header asks for.
 fn lend(s: &[u8], h: Header, picture: bool)
     requires { ⌜ (h .«panel_len» ≤ 1048576) × (h .«store_len» ≤ 4194304) ⌝ }
 {
+    let mut bench = [0u32; numbers::RECORD];
     let mut panel = [0u8; MOST_PANEL];
     let mut store = [0u8; MOST_STORE];
-    session::on_parts(s, h, picture, &mut panel, &mut store);
+    session::on_parts(s, h, picture, &mut bench, &mut panel, &mut store);
 }

@@ -1,11 +1,11 @@
 // A script's bench from open to its end, on lent memories.
 use crate::answer;
 use crate::state;
+ghost use mathlib.Core.Path.{_≡_};
 ghost use Prim.Native.Nat.{_≤_};
 ghost use lib.ListN.{length};
+ghost use Rattle.numbers.specs.Layout.{recordSize};
 ghost use Rattle.replay.specs.Calls.{CallBytes};
-use gdi::GdiState;
-use plan::Opened;
 use script::CallRead;
 use script::Header;
 
@@ -16,7 +16,15 @@ const TEXT: u8 = 0x0F;
 const BEFORE_UNITS: usize = 17;
 
 // A session on the memories' first bytes, as many as the header asks for.
-pub fn on_parts(s: &[u8], h: Header, picture: bool, panel: &mut [u8], store: &mut [u8])
+pub fn on_parts(
+    s: &[u8],
+    h: Header,
+    picture: bool,
+    bench: &mut [u32],
+    panel: &mut [u8],
+    store: &mut [u8],
+)
+    requires { ⌜ length (now bench) ≡ recordSize ⌝ }
     requires { ⌜ (h .«panel_len» ≤ length (now panel)) × (h .«store_len» ≤ length (now store)) ⌝ }
 {
     let panel_len = h.panel_len as usize;
@@ -25,20 +33,23 @@ pub fn on_parts(s: &[u8], h: Header, picture: bool, panel: &mut [u8], store: &mu
         s,
         h,
         picture,
+        bench,
         &mut panel[0..panel_len],
         &mut store[0..store_len],
     );
 }
 
 // A session on memories that are lent whole.
-fn run(s: &[u8], h: Header, picture: bool, panel: &mut [u8], store: &mut [u8]) {
+fn run(s: &[u8], h: Header, picture: bool, bench: &mut [u32], panel: &mut [u8], store: &mut [u8])
+    requires { ⌜ length (now bench) ≡ recordSize ⌝ }
+{
     fill(panel, h.fill);
     fill(store, h.fill);
-    let opened = open::open(panel, store, h.width, h.height);
+    let refusal = open::open(bench, panel, store, h.width, h.height);
     if picture {
-        write_picture(s, opened, panel, store);
+        write_picture(s, refusal, bench, panel, store);
     } else {
-        print_lines(s, opened, panel, store);
+        print_lines(s, refusal, bench, panel, store);
     }
 }
 
@@ -58,26 +69,28 @@ fn print_open(refusal: u32) {
 }
 
 // The line of open, those of the calls unless it was refused, and the state lines.
-fn print_lines(s: &[u8], opened: Opened, panel: &mut [u8], store: &mut [u8]) {
-    let first = opened.state;
-    print_open(opened.refusal);
-    if opened.refusal != 0 {
-        state::print(first, panel, store);
+fn print_lines(s: &[u8], refusal: u32, bench: &mut [u32], panel: &mut [u8], store: &mut [u8])
+    requires { ⌜ length (now bench) ≡ recordSize ⌝ }
+{
+    print_open(refusal);
+    if refusal != 0 {
+        state::print(bench, panel, store);
         return;
     }
-    let last = perform_all(s, first, true, panel, store);
-    state::print(last, panel, store);
+    perform_all(s, true, bench, panel, store);
+    state::print(bench, panel, store);
 }
 
 // The panel after the calls as a picture, or the line of open if it was refused.
-fn write_picture(s: &[u8], opened: Opened, panel: &mut [u8], store: &mut [u8]) {
-    let first = opened.state;
-    if opened.refusal != 0 {
-        print_open(opened.refusal);
+fn write_picture(s: &[u8], refusal: u32, bench: &mut [u32], panel: &mut [u8], store: &mut [u8])
+    requires { ⌜ length (now bench) ≡ recordSize ⌝ }
+{
+    if refusal != 0 {
+        print_open(refusal);
         return;
     }
-    let last = perform_all(s, first, false, panel, store);
-    write_panel(panel, last.width, last.height);
+    perform_all(s, false, bench, panel, store);
+    write_panel(panel, bench[numbers::WIDTH], bench[numbers::HEIGHT]);
 }
 
 // A panel of these sides as a picture, if it has the bytes for them.
@@ -91,16 +104,10 @@ fn write_panel(panel: &[u8], width: u32, height: u32) {
     picture::write(panel, width, height);
 }
 
-// Performs call after call, to the script's end or a bad one, and prints them and what looks ask for if they are shown. The
-// record after the last call.
-fn perform_all(
-    s: &[u8],
-    first: GdiState,
-    shown: bool,
-    panel: &mut [u8],
-    store: &mut [u8],
-) -> GdiState {
-    let mut bench = first;
+// Performs call after call, to the script's end or a bad one, and prints them and what looks ask for if they are shown.
+fn perform_all(s: &[u8], shown: bool, bench: &mut [u32], panel: &mut [u8], store: &mut [u8])
+    requires { ⌜ length (now bench) ≡ recordSize ⌝ }
+{
     let mut units = [0u16; script::MAX_UNITS];
     let mut at = script::HEADER;
     while at < s.len() {
@@ -111,19 +118,16 @@ fn perform_all(
             }
             CallRead::Is(call, next) => {
                 let n = take_units(s, at, next, &mut units);
-                let outcome = perform::perform(bench, call, &units[0..n], panel, store);
-                let a = outcome.answer;
+                let a = perform::perform(bench, call, &units[0..n], panel, store);
                 answer::show(s[at], a, shown);
-                bench = outcome.state;
                 at = next;
             }
             _ => {
                 show_bad_call(shown);
-                return bench;
+                return;
             }
         }
     }
-    bench
 }
 
 // Puts the units of a text, whose bytes end before `next`, at the front of `units`. How many there are; 0 for another call.

@@ -1,65 +1,109 @@
 // The state lines.
 use crate::object;
+ghost use mathlib.Core.Path.{_≡_};
 ghost use Prim.Native.Nat.{_≤_};
+ghost use lib.ListN.{length};
+ghost use Rattle.numbers.specs.Layout.{recordSize};
 use gdi::GDI_SCREEN_DC;
-use gdi::GdiState;
 use gdi::MAX_OBJECTS;
 use gdi::Slot;
 use lines::Line;
+use numbers::COUNT;
+use numbers::FRAMES_HIGH;
+use numbers::FRAMES_LOW;
+use numbers::HEIGHT;
+use numbers::NEXT_HANDLE;
+use numbers::SCREEN;
+use numbers::SLOT;
+use numbers::SLOTS;
+use numbers::STOCK_DIRTY;
+use numbers::WIDTH;
 
 // Prints a record, and the CRCs of its memories, if they are shown.
-pub fn show(bench: GdiState, panel: &[u8], store: &[u8], shown: bool) {
+pub fn show(bench: &[u32], panel: &[u8], store: &[u8], shown: bool)
+    requires { ⌜ length (now bench) ≡ recordSize ⌝ }
+{
     if shown {
         print(bench, panel, store);
     }
 }
 
 // Prints a record, and the CRCs of its memories.
-pub fn print(bench: GdiState, panel: &[u8], store: &[u8]) {
+pub fn print(bench: &[u32], panel: &[u8], store: &[u8])
+    requires { ⌜ length (now bench) ≡ recordSize ⌝ }
+{
     print_counters(bench);
-    let dc = lines::empty().text(b"dc ").hex8(GDI_SCREEN_DC).space();
-    object::add_dc(dc, bench.screen).print();
+    print_screen(bench);
     print_objects(bench);
     print_crcs(crc32::crc32(panel), crc32::crc32(store));
 }
 
 // Prints a record's numbers.
-fn print_counters(bench: GdiState) {
-    let sides = lines::empty()
+fn print_counters(bench: &[u32])
+    requires { ⌜ length (now bench) ≡ recordSize ⌝ }
+{
+    let frames = frames_of(bench[FRAMES_LOW], bench[FRAMES_HIGH]);
+    let sides = sides(bench[WIDTH], bench[HEIGHT]);
+    let counters = add_counters(sides, frames, bench[NEXT_HANDLE]);
+    add_objects(counters, bench[STOCK_DIRTY] == 1, bench[COUNT]).print();
+}
+
+// A frame counter, by its halves.
+fn frames_of(low: u32, high: u32) -> u64 {
+    0x1_0000_0000 * (high as u64) + (low as u64)
+}
+
+// A line with the panel's sides.
+fn sides(width: u32, height: u32) -> Line
+    ensures { λ r. ⌜ r .len ≤ 47 ⌝ }
+{
+    lines::empty()
         .text(b"panel ")
-        .decimal(bench.width as u64)
+        .decimal(width as u64)
         .space()
-        .decimal(bench.height as u64);
-    add_objects(add_counters(sides, bench), bench).print();
+        .decimal(height as u64)
 }
 
 // Adds the frames and the next handle.
-fn add_counters(l: Line, bench: GdiState) -> Line
+fn add_counters(l: Line, frames: u64, next_handle: u32) -> Line
     requires { ⌜ l .len ≤ 47 ⌝ }
     ensures { λ r. ⌜ r .len ≤ 89 ⌝ }
 {
     l.text(b" frames ")
-        .decimal(bench.frame_counter)
+        .decimal(frames)
         .text(b" next ")
-        .hex8(bench.next_handle)
+        .hex8(next_handle)
 }
 
 // Adds the stock bitmap's dirty mark and the number of created objects.
-fn add_objects(l: Line, bench: GdiState) -> Line
+fn add_objects(l: Line, stock_dirty: bool, count: u32) -> Line
     requires { ⌜ l .len ≤ 89 ⌝ }
     ensures { λ r. ⌜ r .len ≤ 124 ⌝ }
 {
     l.text(b" stock ")
-        .flag(bench.stock_dirty)
+        .flag(stock_dirty)
         .text(b" count ")
-        .decimal(bench.count as u64)
+        .decimal(count as u64)
+}
+
+// Prints the screen DC.
+fn print_screen(bench: &[u32])
+    requires { ⌜ length (now bench) ≡ recordSize ⌝ }
+{
+    let l = lines::empty().text(b"dc ").hex8(GDI_SCREEN_DC).space();
+    object::add_dc(l, numbers::dc_of(&bench[SCREEN..SLOTS])).print();
 }
 
 // Prints the created objects in order.
-fn print_objects(bench: GdiState) {
+fn print_objects(bench: &[u32])
+    requires { ⌜ length (now bench) ≡ recordSize ⌝ }
+{
+    let count = bench[COUNT] as usize;
     for i in 0usize..MAX_OBJECTS {
-        if i < bench.count {
-            print_object(bench.objects[i]);
+        if i < count {
+            let p = SLOTS + SLOT * i;
+            let e = p + SLOT;
+            print_object(numbers::slot_of(&bench[p..e]));
         }
     }
 }

@@ -1,15 +1,17 @@
-// Selection, on a record of at most 256 objects.
+// Selection, on a record lent as numbers.
 ghost use mathlib.Core.Path.{_≡_};
-ghost use Prim.Native.Nat.{_≤_};
+ghost use Rattle.numbers.specs.View.{view};
 ghost use Rattle.plan.specs.Select.{selectIn, selectedOf, selectInto};
+ghost use Rattle.ready.specs.Ready.{Lent};
+ghost use Rattle.paint.specs.Memories.{Memories};
+ghost use Rattle.plan.specs.Answer.{partsOf};
+ghost use Rattle.plan.specs.Followed.{Followed};
 use gdi::Dc;
 use gdi::DcFound;
-use gdi::GdiState;
 use gdi::Kind;
 use gdi::STOCK_DEFAULT_BITMAP;
 use gdi::SelectedBitmap;
 use plan::Answer;
-use plan::Outcome;
 
 // The DC with the object of this handle and kind selected into it.
 pub fn select_in(d: Dc, handle: u32, kind: Kind) -> Dc
@@ -17,26 +19,7 @@ pub fn select_in(d: Dc, handle: u32, kind: Kind) -> Dc
 {
     let mut after = d;
     match kind {
-        Kind::Bitmap => {
-            let su = d.surface;
-            let bc = d.brush_color;
-            let pc = d.pen_color;
-            let tc = d.text_color;
-            let kc = d.bk_color;
-            Dc {
-                surface: su,
-                selected_bitmap: SelectedBitmap::Chosen(handle),
-                selected_brush: d.selected_brush,
-                selected_pen: d.selected_pen,
-                selected_font: d.selected_font,
-                brush_color: bc,
-                pen_color: pc,
-                text_color: tc,
-                text_align: d.text_align,
-                bk_color: kc,
-                bk_transparent: d.bk_transparent,
-            }
-        }
+        Kind::Bitmap => gdi::with_bitmap(d, handle),
         Kind::Brush(c) => {
             after.selected_brush = handle;
             after.brush_color = c;
@@ -74,31 +57,22 @@ pub fn selected(d: Dc, kind: Kind) -> u32
     }
 }
 
-// Ties an object into a DC, and answers the handle that it takes the place of.
-pub fn select_into(state: GdiState, dc: u32, object: u32) -> Outcome
-    requires { ⌜ state .count ≤ 256 ⌝ }
-    ensures { λ r. ⌜ r ≡ selectInto state dc object .outcome ⌝ }
+// Selects an object into a DC. The handle selected before; 0 if nothing is selected.
+pub fn select_into(l: &mut [u32], dc: u32, object: u32) -> Answer
+    requires { ⌜ Lent (now l) (view (now l) .«panel_len») (view (now l) .«store_len») ⌝ }
+    ensures { λ r. ⌜ ((ms : Memories) → Followed (selectInto (view (now (l .entry))) dc object) (now (l .entry)) ms (partsOf r) (now (l .exit)) ms) ⌝ }
 {
-    let k = lookup::find_kind(state, object);
+    let k = lookup::find_kind(l, object);
     if let Kind::Other = k {
-        return Outcome {
-            state: state,
-            answer: Answer::Handle(0),
-        };
+        return Answer::Handle(0);
     }
-    match lookup::find_dc(state, dc) {
+    match lookup::find_dc(l, dc) {
         DcFound::Is(p, d) => {
             let old = selected(d, k);
-            let e = select_in(d, object, k);
-            let after = lookup::store_dc(state, dc, p, e);
-            Outcome {
-                state: after,
-                answer: Answer::Handle(old),
-            }
+            let after = select_in(d, object, k);
+            lookup::store_dc(l, dc, p, after);
+            Answer::Handle(old)
         }
-        DcFound::Absent => Outcome {
-            state: state,
-            answer: Answer::Handle(0),
-        },
+        DcFound::Absent => Answer::Handle(0),
     }
 }

@@ -6,16 +6,16 @@ use Rattle.gdi.specs.declared.DcFound.the-variants.{Is, Absent}
 use Rattle.gdi.specs.declared.GdiState.{GdiState}
 use Rattle.gdi.specs.declared.Spot.{Spot}
 use Rattle.gdi.specs.Lookup.{dcOf}
-use Rattle.gdi.specs.Record.{storeOf}
-use Rattle.plan.specs.declared.Answer.{Answer}
-use Rattle.plan.specs.declared.Answer.the-variants.{Refused}
+use Rattle.gdi.specs.Updates.{storeOf}
+use Rattle.plan.specs.Answer.{Parts}
+use Rattle.plan.specs.Plan.{told, refuse}
 use Rattle.plan.specs.Settings.{setting}
 
-module _ (old : Dc → Answer) (new : Dc → Dc) (b : GdiState) (dc : ℕ) where
-  pub set-in-dc : {p : Spot} {d d′ : Dc} {a : Answer} {after : GdiState} → dcOf b dc ≡ Is p d → (a ≡ old d) × (d′ ≡ new d) → after ≡ storeOf b dc p d′ → record { state = after; answer = a } ≡ setting old new b dc .outcome
+module _ (old : Dc → Parts) (new : Dc → Dc) (b : GdiState) (dc : ℕ) where
+  pub set-in-dc : {p : Spot} {d d′ : Dc} {a : Parts} → dcOf b dc ≡ Is p d → a ≡ old d → d′ ≡ new d → setting old new b dc ≡ told (storeOf b dc p d′) a
   unfolding setting
-  set-in-dc e n s = rw (e, s, n .1, n .0)
+  set-in-dc e o n = rw (e, n, o)
 
-  pub set-no-dc : dcOf b dc ≡ Absent → record { state = b; answer = Refused 1 } ≡ setting old new b dc .outcome
+  pub set-no-dc : dcOf b dc ≡ Absent → setting old new b dc ≡ refuse 1 b
   unfolding setting
   set-no-dc e = rw e

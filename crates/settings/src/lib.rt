@@ -1,98 +1,77 @@
-// Settings, each one field of one DC, on a record of at most 256 objects.
-ghost use mathlib.Core.Path.{_≡_};
-ghost use Prim.Native.Nat.{_≤_};
+// Settings, each one field of one DC, on a record lent as numbers.
+ghost use Rattle.numbers.specs.View.{view};
 ghost use Rattle.plan.specs.Settings.{setTextColor, setTextAlign, setBkColor, setBkMode};
+ghost use Rattle.ready.specs.Ready.{Lent};
+ghost use Rattle.paint.specs.Memories.{Memories};
+ghost use Rattle.plan.specs.Answer.{partsOf};
+ghost use Rattle.plan.specs.Followed.{Followed};
 use color::Colorref;
 use gdi::DcFound;
-use gdi::GdiState;
 use plan::Answer;
-use plan::Outcome;
 
 // The refusal of a handle that is no DC's.
 pub const NO_DC: u32 = 1;
 
-pub fn set_text_color(state: GdiState, dc: u32, color: Colorref) -> Outcome
-    requires { ⌜ state .count ≤ 256 ⌝ }
-    ensures { λ r. ⌜ r ≡ setTextColor state dc color .outcome ⌝ }
+pub fn set_text_color(l: &mut [u32], dc: u32, color: Colorref) -> Answer
+    requires { ⌜ Lent (now l) (view (now l) .«panel_len») (view (now l) .«store_len») ⌝ }
+    ensures { λ r. ⌜ ((ms : Memories) → Followed (setTextColor (view (now (l .entry))) dc color) (now (l .entry)) ms (partsOf r) (now (l .exit)) ms) ⌝ }
 {
-    match lookup::find_dc(state, dc) {
+    match lookup::find_dc(l, dc) {
         DcFound::Is(p, d) => {
             let set = dc_mut::with_text_color(d, color);
-            let recolored = set.dc;
-            let old_color = set.old;
-            let after = lookup::store_dc(state, dc, p, recolored);
-            Outcome {
-                state: after,
-                answer: Answer::OldColor(old_color),
-            }
+            let after = set.dc;
+            let old = set.old;
+            lookup::store_dc(l, dc, p, after);
+            Answer::OldColor(old)
         }
-        DcFound::Absent => Outcome {
-            state: state,
-            answer: Answer::Refused(NO_DC),
-        },
+        DcFound::Absent => Answer::Refused(NO_DC),
     }
 }
 
-pub fn set_text_align(state: GdiState, dc: u32, align: u32) -> Outcome
-    requires { ⌜ state .count ≤ 256 ⌝ }
-    ensures { λ r. ⌜ r ≡ setTextAlign state dc align .outcome ⌝ }
+pub fn set_text_align(l: &mut [u32], dc: u32, align: u32) -> Answer
+    requires { ⌜ Lent (now l) (view (now l) .«panel_len») (view (now l) .«store_len») ⌝ }
+    ensures { λ r. ⌜ ((ms : Memories) → Followed (setTextAlign (view (now (l .entry))) dc align) (now (l .entry)) ms (partsOf r) (now (l .exit)) ms) ⌝ }
 {
-    match lookup::find_dc(state, dc) {
+    match lookup::find_dc(l, dc) {
         DcFound::Is(p, d) => {
             let set = dc_mut::with_text_align(d, align);
-            let realigned = set.dc;
-            let after = lookup::store_dc(state, dc, p, realigned);
-            Outcome {
-                state: after,
-                answer: Answer::OldAlign(set.old),
-            }
+            let after = set.dc;
+            let old = set.old;
+            lookup::store_dc(l, dc, p, after);
+            Answer::OldAlign(old)
         }
-        DcFound::Absent => Outcome {
-            state: state,
-            answer: Answer::Refused(NO_DC),
-        },
+        DcFound::Absent => Answer::Refused(NO_DC),
     }
 }
 
-pub fn set_bk_color(state: GdiState, dc: u32, color: Colorref) -> Outcome
-    requires { ⌜ state .count ≤ 256 ⌝ }
-    ensures { λ r. ⌜ r ≡ setBkColor state dc color .outcome ⌝ }
+pub fn set_bk_color(l: &mut [u32], dc: u32, color: Colorref) -> Answer
+    requires { ⌜ Lent (now l) (view (now l) .«panel_len») (view (now l) .«store_len») ⌝ }
+    ensures { λ r. ⌜ ((ms : Memories) → Followed (setBkColor (view (now (l .entry))) dc color) (now (l .entry)) ms (partsOf r) (now (l .exit)) ms) ⌝ }
 {
-    match lookup::find_dc(state, dc) {
+    match lookup::find_dc(l, dc) {
         DcFound::Is(p, d) => {
             let set = dc_mut::with_bk_color(d, color);
-            let regrounded = set.dc;
-            let old_ground = set.old;
-            let after = lookup::store_dc(state, dc, p, regrounded);
-            Outcome {
-                state: after,
-                answer: Answer::OldColor(old_ground),
-            }
+            let after = set.dc;
+            let old = set.old;
+            lookup::store_dc(l, dc, p, after);
+            Answer::OldColor(old)
         }
-        DcFound::Absent => Outcome {
-            state: state,
-            answer: Answer::Refused(NO_DC),
-        },
+        DcFound::Absent => Answer::Refused(NO_DC),
     }
 }
 
-pub fn set_bk_mode(state: GdiState, dc: u32, transparent: bool) -> Outcome
-    requires { ⌜ state .count ≤ 256 ⌝ }
-    ensures { λ r. ⌜ r ≡ setBkMode state dc transparent .outcome ⌝ }
+pub fn set_bk_mode(l: &mut [u32], dc: u32, transparent: bool) -> Answer
+    requires { ⌜ Lent (now l) (view (now l) .«panel_len») (view (now l) .«store_len») ⌝ }
+    ensures { λ r. ⌜ ((ms : Memories) → Followed (setBkMode (view (now (l .entry))) dc transparent) (now (l .entry)) ms (partsOf r) (now (l .exit)) ms) ⌝ }
 {
-    match lookup::find_dc(state, dc) {
+    match lookup::find_dc(l, dc) {
         DcFound::Is(p, d) => {
             let set = dc_mut::with_bk_mode(d, transparent);
-            let remoded = set.dc;
-            let after = lookup::store_dc(state, dc, p, remoded);
-            Outcome {
-                state: after,
-                answer: Answer::OldMode(set.old),
-            }
+            let after = set.dc;
+            let old = set.old;
+            lookup::store_dc(l, dc, p, after);
+            Answer::OldMode(old)
         }
-        DcFound::Absent => Outcome {
-            state: state,
-            answer: Answer::Refused(NO_DC),
-        },
+        DcFound::Absent => Answer::Refused(NO_DC),
     }
 }

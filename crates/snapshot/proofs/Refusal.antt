@@ -1,37 +1,50 @@
 -- What a snapshot that is not refused may count on, and its number at the outcome of each test. Assumes nothing.
+use mathlib.Core.List.{List}
 use mathlib.Core.Path.{_≡_, sym, _∙_}
 use Prim.Native.Nat.{ℕ, _*_, _≤_}
 use native.Mathlib.Omega.{arith}
+use lib.ListN.{length}
 use borrow.Author.Tests.{eq-eqb, ne-eqb}
-use Rattle.gdi.specs.declared.GdiState.{GdiState}
 use Rattle.surface.proofs.Accepted.{side-range}
+use Rattle.numbers.specs.Layout.{recordSize, widthPlace, heightPlace}
+use Rattle.numbers.specs.Block.{at}
+use Rattle.numbers.specs.View.{view}
+use Rattle.numbers.proofs.Seen.{record-length, width-seen, height-seen}
 use Rattle.sound.proofs.Sound.{parts}
-use Rattle.ready.specs.Ready.{commonRefusal}
-use Rattle.ready.proofs.Ready.{ready}
+use Rattle.ready.specs.Ready.{panelRefusalOn}
+use Rattle.ready.proofs.Ready.{lent}
 use Rattle.snapshot.specs.Snapshot.{snapshotRefusal}
 
--- A panel that is lent as the record says.
-pub record Lent (b : GdiState) (n : ℕ) : Type 0 where
-  pub wide : b .width ≤ 4096
-  pub high : b .height ≤ 4096
-  pub long : 2 * (b .width * b .height) ≤ n
+-- A panel that is lent as the record says, by the sides that the code reads.
+pub record Shown (l : List ℕ) (n : ℕ) : Type 0 where
+  pub numbers : length l ≡ recordSize
+  pub wide : at l widthPlace ≤ 4096
+  pub high : at l heightPlace ≤ 4096
+  pub long : 2 * (at l widthPlace * at l heightPlace) ≤ n
 
-module _ (b : GdiState) (n got wanted : ℕ) {number : ℕ} (is : number ≡ commonRefusal b n (b .«store_len»)) where
-  pub refused : (number ≡ 0 → ⊥) → number ≡ snapshotRefusal b n got wanted
-  unfolding snapshotRefusal
-  refused k = rw (ne-eqb (commonRefusal b n (b .«store_len»)) 0 (λ e. k (is ∙ e))) is
-
-  module _ (zero : number ≡ 0) where
-    pub other-length : (got ≡ wanted → ⊥) → 8 ≡ snapshotRefusal b n got wanted
+module _ (l : List ℕ) (n : ℕ) {number : ℕ} (is : number ≡ panelRefusalOn l n) where
+  module _ (got : ℕ) (wanted : (width height : ℕ) → ℕ) where
+    pub refused : (number ≡ 0 → ⊥) → number ≡ snapshotRefusal l n got wanted
     unfolding snapshotRefusal
-    other-length k = rw (eq-eqb (commonRefusal b n (b .«store_len»)) 0 (sym is ∙ zero), ne-eqb got wanted k)
+    refused k = rw (ne-eqb (panelRefusalOn l n) 0 (λ e. k (is ∙ e))) is
 
-    pub exact : got ≡ wanted → 0 ≡ snapshotRefusal b n got wanted
-    unfolding snapshotRefusal
-    exact e = rw (eq-eqb (commonRefusal b n (b .«store_len»)) 0 (sym is ∙ zero), eq-eqb got wanted e)
+    module _ (zero : number ≡ 0) where
+      pub other-length : (got ≡ wanted (at l widthPlace) (at l heightPlace) → ⊥) → 8 ≡ snapshotRefusal l n got wanted
+      unfolding snapshotRefusal
+      other-length k = rw (eq-eqb (panelRefusalOn l n) 0 (sym is ∙ zero), ne-eqb got (wanted (view l .width) (view l .height)) (λ e. k (rw (width-seen l, height-seen l) at e)))
 
-pub lent : (b : GdiState) (n : ℕ) {number : ℕ} → number ≡ commonRefusal b n (b .«store_len») → number ≡ 0 → Lent b n
-lent b n {number} is zero =
-    let r = ready b n (b .«store_len») number is zero in
-    let s = parts b (r .sound) in
-    record { wide = side-range (b .width) (s .width) .1; high = side-range (b .height) (s .height) .1; long = omega (arith, r .panel, s .panel) }
+      pub exact : got ≡ wanted (at l widthPlace) (at l heightPlace) → 0 ≡ snapshotRefusal l n got wanted
+      unfolding snapshotRefusal
+      exact e = rw (eq-eqb (panelRefusalOn l n) 0 (sym is ∙ zero), eq-eqb got (wanted (view l .width) (view l .height)) (rw (width-seen l, height-seen l) e))
+
+  pub shown : number ≡ 0 → Shown l n
+  shown zero =
+      let r = lent l n (view l .«store_len») number is zero in
+      let s = parts (view l) (r .ready .sound) in
+      let fits : 2 * (view l .width * view l .height) ≤ n = omega (arith, r .ready .panel, s .panel) in
+      record {
+        numbers = record-length l (r .is-record);
+        wide = rw (width-seen l) at (side-range (view l .width) (s .width) .1);
+        high = rw (height-seen l) at (side-range (view l .height) (s .height) .1);
+        long = rw (width-seen l, height-seen l) at fits;
+      }

@@ -1,3 +1,5 @@
 pub mod Bytes
 pub mod Handles
 pub mod Sound
+pub mod Objects
+pub mod Slots

@@ -1,83 +1,31 @@
-// What a created object of a sound record has to be, and where its pixels lie.
+// What the objects of a record lent as numbers have to be, and where their pixels begin.
 ghost use mathlib.Core.Path.{_≡_};
-ghost use mathlib.Core.Bool.{true};
-ghost use Prim.Native.Nat.{_≤_, _+_, _*_};
+ghost use mathlib.Core.Bool.{true, not, _&&_};
+ghost use Prim.Native.Nat.{_+_, _*_, _≤_};
+ghost use lib.Dec.{eqb};
+ghost use lib.ListN.{length};
+ghost use Rattle.words.specs.Parts.{part};
 ghost use Rattle.gdi.specs.Record.{bytesOf};
-ghost use Rattle.sound.specs.Sound.{isMemory, objectFits, slotFits, slotsFit, startOf};
-use gdi::Dc;
-use gdi::DcSurface;
+ghost use Rattle.gdi.specs.Stock.{isStock};
+ghost use Rattle.numbers.specs.Layout.{objectSize, slotSize, countPlace, kindPlace, objectPlace};
+ghost use Rattle.numbers.specs.Block.{at, objectOf};
+ghost use Rattle.numbers.specs.View.{view, isRecord};
+ghost use Rattle.sound.specs.Sound.{objectFits, slotsFit, startOf};
+use gdi::GDI_HANDLE_BASE;
 use gdi::GdiObject;
-use gdi::GdiState;
-use gdi::Slot;
+use gdi::STOCK_WHITE_BRUSH;
+use numbers::BITMAP_HEIGHT;
+use numbers::COUNT;
+use numbers::KIND;
+use numbers::OBJECT;
+use numbers::SLOT;
+use numbers::SLOTS;
 
 // The most bytes that a memory may have.
 pub const MAX_MEMORY: usize = 33_554_432;
 
-// A DC that a program may create.
-pub fn is_memory(d: Dc) -> bool
-    ensures { λ r. ⌜ r ≡ isMemory (d .surface) ⌝ }
-{
-    let s = d.surface;
-    match s {
-        DcSurface::Screen => false,
-        DcSurface::Memory => true,
-    }
-}
-
-// What a created object has to be.
-pub fn object_fits(object: GdiObject) -> bool
-    ensures { λ r. ⌜ r ≡ objectFits object ⌝ }
-{
-    match object {
-        GdiObject::Dc(d) => is_memory(d),
-        GdiObject::Bitmap(m) => {
-            if surface::is_side(m.width) {
-                surface::is_side(m.height)
-            } else {
-                false
-            }
-        }
-        GdiObject::Brush(_) => true,
-        GdiObject::Pen(_) => true,
-        GdiObject::Font(_) => true,
-    }
-}
-
-// What a slot of a created object has to be.
-pub fn slot_fits(s: Slot) -> bool
-    ensures { λ r. ⌜ r ≡ slotFits s ⌝ }
-{
-    let h = s.handle;
-    if h == 0 {
-        return false;
-    }
-    if gdi::is_stock_handle(h) {
-        return false;
-    }
-    let o = s.object;
-    object_fits(o)
-}
-
-// Whether every created object is what it has to be.
-pub fn slots_fit(state: GdiState) -> bool
-    requires { ⌜ state .count ≤ 256 ⌝ }
-    ensures { λ r. ⌜ r ≡ slotsFit state ⌝ }
-{
-    let n = state.count;
-    let mut i: usize = 0;
-    while i < n {
-        let s = state.objects[i];
-        if slot_fits(s) {
-            i += 1;
-        } else {
-            return false;
-        }
-    }
-    true
-}
-
 // The bytes of an object's pixels.
-pub fn bytes_of(object: GdiObject) -> usize
+pub fn object_bytes(object: GdiObject) -> usize
     requires { ⌜ objectFits object ≡ true ⌝ }
     ensures { λ r. ⌜ r ≡ bytesOf object ⌝ }
 {
@@ -94,21 +42,86 @@ pub fn bytes_of(object: GdiObject) -> usize
     }
 }
 
-// The store's byte from which the pixels of object i lie; past the last object, where they end.
-pub fn start_of(state: GdiState, i: usize) -> usize
-    requires { ⌜ state .count ≤ 256 ⌝ }
-    requires { ⌜ i ≤ state .count ⌝ }
-    requires { ⌜ slotsFit state ≡ true ⌝ }
-    ensures { λ r. ⌜ r ≡ startOf state i ⌝ }
+// Whether the object whose slot stands from number p on is what a created object has to be.
+fn object_fits(l: &[u32], p: usize) -> bool
+    requires { ⌜ p + slotSize ≤ length (now l) ⌝ }
+    ensures { λ r. ⌜ r ≡ objectFits (objectOf (at (now (l .entry)) (p + kindPlace)) (part (now (l .entry)) (p + objectPlace) objectSize)) ⌝ }
+{
+    match l[p + KIND] {
+        0 => l[p + OBJECT] == 1,
+        1 => {
+            if surface::is_side(l[p + OBJECT]) {
+                surface::is_side(l[p + BITMAP_HEIGHT])
+            } else {
+                false
+            }
+        }
+        _ => true,
+    }
+}
+
+// The bytes of the pixels of the object whose slot stands from number p on.
+pub fn bytes_of(l: &[u32], p: usize) -> usize
+    requires { ⌜ p + slotSize ≤ length (now l) ⌝ }
+    requires { ⌜ objectFits (objectOf (at (now l) (p + kindPlace)) (part (now l) (p + objectPlace) objectSize)) ≡ true ⌝ }
+    ensures { λ r. ⌜ r ≡ bytesOf (objectOf (at (now (l .entry)) (p + kindPlace)) (part (now (l .entry)) (p + objectPlace) objectSize)) ⌝ }
+{
+    if l[p + KIND] != 1 {
+        return 0;
+    }
+    let w = l[p + OBJECT] as usize;
+    let h = l[p + BITMAP_HEIGHT] as usize;
+    2 * (w * h)
+}
+
+// Whether a handle is neither 0 nor stock, as all are that are given before handles go round.
+fn handle_fits(h: u32) -> bool
+    ensures { λ r. ⌜ r ≡ (not (eqb h 0) && not (isStock h)) ⌝ }
+{
+    if h >= GDI_HANDLE_BASE {
+        if h < STOCK_WHITE_BRUSH {
+            return true;
+        }
+    }
+    if h == 0 {
+        return false;
+    }
+    !gdi::is_stock_handle(h)
+}
+
+// Whether every created object is what it has to be.
+pub fn slots_fit(l: &[u32]) -> bool
+    requires { ⌜ isRecord (now l) ≡ true ⌝ }
+    ensures { λ r. ⌜ r ≡ slotsFit (view (now (l .entry))) ⌝ }
+{
+    let n = l[COUNT] as usize;
+    let mut i: usize = 0;
+    while i < n {
+        let p = SLOTS + SLOT * i;
+        if !handle_fits(l[p]) {
+            return false;
+        }
+        if !object_fits(l, p) {
+            return false;
+        }
+        i += 1;
+    }
+    true
+}
+
+// Where the pixels of object n begin in the store: behind those of the stock bitmap and of the objects before it.
+pub fn start_of(l: &[u32], n: usize) -> usize
+    requires { ⌜ isRecord (now l) ≡ true ⌝ }
+    requires { ⌜ slotsFit (view (now l)) ≡ true ⌝ }
+    requires { ⌜ n ≤ at (now l) countPlace ⌝ }
+    ensures { λ r. ⌜ r ≡ startOf (view (now (l .entry))) n ⌝ }
     ensures { λ r. ⌜ r ≤ 2 + 33554432 * 256 ⌝ }
 {
-    let mut j: usize = 0;
-    let mut at: usize = 2;
-    while j < i {
-        let s = state.objects[j];
-        let o = s.object;
-        at += bytes_of(o);
-        j += 1;
+    let mut i: usize = 0;
+    let mut end: usize = 2;
+    while i < n {
+        end += bytes_of(l, SLOTS + SLOT * i);
+        i += 1;
     }
-    at
+    end
 }

@@ -2,8 +2,8 @@
 //! and beside the pixel work alone: the same drawing by the proved operation on
 //! lent bytes. In each round one after the other, the order changing, each on a
 //! scene of its own; a row has the medians over the rounds. The answers, panels,
-//! bitmaps and frame counters must be equal. Every proved call checks the record
-//! anew, which the original never does.
+//! bitmaps, snapshots and frame counters must be equal. Every proved call checks
+//! the record anew, which the original never does.
 
 #[path = "../proved.rs"]
 #[allow(dead_code)]
@@ -23,38 +23,60 @@ const SLICE: f64 = 2e6;
 const MOST: f64 = 8000.0;
 
 const PANEL: [u32; 2] = [240, 320];
+const RGBA: usize = (4 * PANEL[0] * PANEL[1]) as usize;
 const BITMAP: [u32; 2] = [100, 100];
 const AREA: [i32; 4] = [70, 110, 100, 100];
 const TEXT_AT: [i32; 2] = [96, 150];
 const TEXT: &str = "MODULE 6";
 
 /// What is called.
-#[derive(Clone, Copy, PartialEq)]
+#[derive(Clone, Copy)]
 enum Call {
     SetTextColor,
     Select,
-    CreateDelete,
+    Brush,
+    Bitmap,
     PanelFill,
+    Resize,
     PatternFill,
     Rectangle,
     Blit,
     Text,
+    SnapshotRgba,
+    SnapshotPpm,
 }
 
 /// The rows; creation and deletion are two calls.
-const ROWS: [(&str, Call); 8] = [
+const ROWS: [(&str, Call); 12] = [
     ("set text colour", Call::SetTextColor),
     ("select", Call::Select),
-    ("create a brush, delete it (both)", Call::CreateDelete),
+    ("create a brush, delete it (both)", Call::Brush),
+    ("create a bitmap 100×100, delete it (both)", Call::Bitmap),
     ("panel fill 240×320", Call::PanelFill),
+    ("resize 240×320, 320×240", Call::Resize),
     ("pattern fill PATCOPY 100×100", Call::PatternFill),
     ("rectangle 100×100", Call::Rectangle),
     ("blit SRCCOPY 100×100", Call::Blit),
     ("text, 8 units", Call::Text),
+    ("snapshot RGBA 240×320", Call::SnapshotRgba),
+    ("snapshot PPM 240×320", Call::SnapshotPpm),
 ];
 
-/// Created objects while the call is made; a brush that it creates is one.
+/// Created objects while the call is made; a brush or bitmap that it creates is
+/// one.
 const OBJECTS: [u32; 3] = [20, 64, 256];
+
+/// The panel's sides after resize `i`: turned by the first one, back by the next.
+fn sides(i: u32) -> [u32; 2] {
+    let [width, height] = PANEL;
+    black_box(if i % 2 == 0 { [height, width] } else { PANEL })
+}
+
+/// The answer for a snapshot: its length and its middle byte.
+fn brief(snapshot: &[u8]) -> u32 {
+    let snapshot = black_box(snapshot);
+    256 * snapshot.len() as u32 + u32::from(snapshot[snapshot.len() / 2])
+}
 
 /// The handles that calls name: those of the last created objects, which stand
 /// at the end of the record.
@@ -73,11 +95,12 @@ trait Scene {
     fn call(&mut self, call: Call, i: u32) -> u32;
 }
 
-/// The proved bench.
+/// The proved bench, and its last snapshot.
 struct Host {
     bench: Bench,
     handles: Handles,
     units: Vec<u16>,
+    snapshot: Vec<u8>,
 }
 
 impl Host {
@@ -94,7 +117,8 @@ impl Host {
         bench.rectangle(dc, Area { x: 10, y: 20, w: 80, h: 50 })?;
         let brush = bench.create_solid_brush(Colorref(0x0012_3456))?;
         let handles = Handles { dc: dc.0, bitmap: bitmap.0, brush: brush.0 };
-        Ok(Host { bench, handles, units: TEXT.encode_utf16().collect() })
+        let units = TEXT.encode_utf16().collect();
+        Ok(Host { bench, handles, units, snapshot: vec![0; RGBA] })
     }
 
     fn answer(&mut self, call: Call, i: u32) -> Result<u32, Refusal> {
@@ -109,12 +133,22 @@ impl Host {
                 self.handles.brush = old.0;
                 old.0
             }
-            Call::CreateDelete => {
+            Call::Brush => {
                 let handle = bench.create_solid_brush(Colorref(i))?;
                 bench.delete(black_box(handle))?;
                 handle.0
             }
+            Call::Bitmap => {
+                let handle = bench.create_compatible_bitmap(BITMAP[0], BITMAP[1])?;
+                bench.delete(black_box(handle))?;
+                handle.0
+            }
             Call::PanelFill => bench.panel_fill(Rgb565(black_box(i as u16))).map(|()| 0)?,
+            Call::Resize => {
+                let [width, height] = sides(i);
+                bench.resize(width, height)?;
+                bench.width()
+            }
             Call::PatternFill => {
                 bench.pattern_fill(screen, area, black_box(rop3::PATCOPY)).map(|()| 0)?
             }
@@ -126,6 +160,15 @@ impl Host {
             Call::Text => {
                 let at = Point { x: TEXT_AT[0], y: TEXT_AT[1] };
                 bench.text_out(screen, at, black_box(&self.units))?
+            }
+            Call::SnapshotRgba => {
+                let panel = black_box(bench.panel());
+                bench.record().snapshot_rgba8888_into(panel, &mut self.snapshot)?;
+                brief(&self.snapshot)
+            }
+            Call::SnapshotPpm => {
+                self.snapshot = black_box(bench).snapshot_ppm()?;
+                brief(&self.snapshot)
             }
         })
     }
@@ -141,12 +184,13 @@ impl Scene for Host {
     }
 }
 
-/// The original's objects and panel.
+/// The original's objects and panel, and its last snapshot.
 struct Original {
     gdi: GdiState,
     panel: Framebuffer,
     handles: Handles,
     units: Vec<u16>,
+    snapshot: Vec<u8>,
 }
 
 /// A DC's brush, pen and text colours, packed.
@@ -170,11 +214,12 @@ impl Scene for Original {
         surface.stroke_rect(10, 20, 80, 50, pen);
         let brush = gdi.create_solid_brush(0x0012_3456);
         let handles = Handles { dc, bitmap, brush };
-        Original { gdi, panel, handles, units: TEXT.encode_utf16().collect() }
+        let units = TEXT.encode_utf16().collect();
+        Original { gdi, panel, handles, units, snapshot: vec![0; RGBA] }
     }
 
     fn call(&mut self, call: Call, i: u32) -> u32 {
-        let Original { gdi, panel, handles, units } = self;
+        let Original { gdi, panel, handles, units, snapshot } = self;
         let dc = black_box(handles.dc);
         let [x, y, w, h] = AREA;
         match call {
@@ -186,14 +231,24 @@ impl Scene for Original {
                 handles.brush = gdi.select_into(dc, handles.brush);
                 handles.brush
             }
-            Call::CreateDelete => {
+            Call::Brush => {
                 let handle = gdi.create_solid_brush(i);
+                gdi.delete(black_box(handle));
+                handle
+            }
+            Call::Bitmap => {
+                let handle = gdi.create_compatible_bitmap(BITMAP[0], BITMAP[1]);
                 gdi.delete(black_box(handle));
                 handle
             }
             Call::PanelFill => {
                 panel.fill(black_box(i as u16));
                 0
+            }
+            Call::Resize => {
+                let [width, height] = sides(i);
+                panel.resize(width, height);
+                panel.width
             }
             Call::PatternFill => {
                 let [brush, ..] = colors(gdi, GDI_SCREEN_DC);
@@ -226,6 +281,14 @@ impl Scene for Original {
                 surface.mark_dirty();
                 advance as u32
             }
+            Call::SnapshotRgba => {
+                black_box(panel).snapshot_rgba8888_into(snapshot);
+                brief(snapshot)
+            }
+            Call::SnapshotPpm => {
+                *snapshot = black_box(panel).snapshot_ppm();
+                brief(snapshot)
+            }
         }
     }
 }
@@ -238,9 +301,17 @@ struct Pixels {
     units: Vec<u16>,
 }
 
+impl Pixels {
+    /// Fills the whole panel.
+    fn fill(&mut self, color: u16) {
+        let [width, height] = [self.panel.width, self.panel.height].map(|side| side as i32);
+        self.panel.fill_rect([0, 0, width, height], color);
+    }
+}
+
 impl Scene for Pixels {
     fn new(brushes: u32) -> Self {
-        let Original { gdi, panel, handles, units } = Original::new(brushes);
+        let Original { gdi, panel, handles, units, .. } = Original::new(brushes);
         let bitmap = gdi.bitmap(handles.bitmap).expect("the bitmap").pixels.clone();
         let [width, height] = PANEL;
         let panel = proved::Surface { pixels: panel.pixels, width, height };
@@ -252,9 +323,13 @@ impl Scene for Pixels {
         let [x, y, ..] = AREA;
         match call {
             Call::PanelFill => {
-                let [width, height] = PANEL.map(|side| side as i32);
-                self.panel.fill_rect([0, 0, width, height], black_box(i as u16));
+                self.fill(black_box(i as u16));
                 0
+            }
+            Call::Resize => {
+                [self.panel.width, self.panel.height] = sides(i);
+                self.fill(0);
+                self.panel.width
             }
             Call::PatternFill => {
                 self.panel.fill_rect_rop(AREA, brush, black_box(rop3::PATCOPY));
@@ -280,14 +355,16 @@ impl Scene for Pixels {
 }
 
 impl Call {
+    /// Whether its pixel work is timed alone.
     fn draws(self) -> bool {
-        !matches!(self, Call::SetTextColor | Call::Select | Call::CreateDelete)
+        use Call::*;
+        matches!(self, PanelFill | Resize | PatternFill | Rectangle | Blit | Text)
     }
 
     /// The brushes that a scene begins with, beside the DC, the bitmap and the
     /// last brush.
     fn brushes(self, objects: u32) -> u32 {
-        objects - if self == Call::CreateDelete { 4 } else { 3 }
+        objects - if matches!(self, Call::Brush | Call::Bitmap) { 4 } else { 3 }
     }
 }
 
@@ -301,11 +378,16 @@ fn time<S: Scene>(call: Call, brushes: u32, count: u32) -> f64 {
     start.elapsed().as_nanos() as f64 / f64::from(count)
 }
 
-/// Makes the call a hundred times on each: answers, panels, bitmaps and frame
-/// counters must be equal.
+/// Makes the call a hundred times on each, with a rectangle and a text on the
+/// panel: answers, panels, bitmaps, snapshots and frame counters must be equal.
 fn check(call: Call, brushes: u32) {
     let (mut host, mut original) = (Host::new(brushes), Original::new(brushes));
     let mut pixels = Pixels::new(brushes);
+    for drawing in [Call::Rectangle, Call::Text] {
+        host.call(drawing, 0);
+        original.call(drawing, 0);
+        pixels.call(drawing, 0);
+    }
     for i in 0..100 {
         let answer = host.call(call, i);
         assert_eq!(answer, original.call(call, i), "the answers differ");
@@ -315,6 +397,9 @@ fn check(call: Call, brushes: u32) {
     let (bench, handles) = (&host.bench, original.handles);
     assert!(bench.panel() == original.panel.pixels, "the panels differ");
     assert!(pixels.panel.pixels == original.panel.pixels, "the panels differ");
+    let [width, height] = [original.panel.width, original.panel.height];
+    assert_eq!([bench.width(), bench.height()], [width, height], "the sides differ");
+    assert!(host.snapshot == original.snapshot, "the snapshots differ");
     let bitmap = &original.gdi.bitmap(handles.bitmap).expect("the bitmap").pixels;
     assert!(bench.bitmap_pixels(Handle(handles.bitmap)) == Some(bitmap), "the bitmaps differ");
     assert_eq!(bench.frame_counter(), original.panel.frame_counter, "the marks differ");

@@ -1,8 +1,12 @@
 -- `bitblt::blit` meets its contract. Assumes nothing.
-use borrow.Author.Needs.{needs}
-use Rattle.sound.proofs.Sound.{parts}
+use mathlib.Core.Path.{refl, ap}
+use Rattle.numbers.specs.View.{view}
+use Rattle.place.specs.declared.Site.{Site}
+use Rattle.place.proofs.Targets.{target-placed}
+use Rattle.plan.proofs.Followed.{followed-as, refusal, strokes-followed}
 use Rattle.draw.proofs.Drawings.{within-lent}
-use Rattle.bitblt.proofs.Blits.{beside-found, as-fill, refused-1, refused-2, refused-3, refused-4, accepted}
+use Rattle.bitblt.proofs.Blits.{beside-found, blit-made, as-fill, refused-1, refused-2, refused-3, refused-4, accepted}
+use borrow.Author.Needs.{needs}
 use Rattle.bitblt.proofs.blit.Statement.{statement}
 use Rattle.bitblt.proofs.blit.Tie as tie
 
@@ -18,12 +22,16 @@ same-length c = search needs
 same-length-2 : tie.Need-same-length-2
 same-length-2 c = search needs
 
+same-length-3 : tie.Need-same-length-3
+same-length-3 c = search needs
+
 returns : tie.Need-returns
 returns c =
-    let k = c .before .before .before .before .before .before .before in
-    let a = k .before .before .before .before .args in
-    as-fill (a .state) (a .dc) (a .area) (a .src) (a .from) (a .rop) (k .before .uses-src .ensures) (k .if1 .taken)
-    (c .before .before .before .before .pattern-fill .ensures)
+    let p = c .before .before .before .before .before .before in
+    let i = p .before .before .before .before in
+    let u = i .before in
+    let s = u .before .before .before .before in
+    followed-as (as-fill (view (s .args .l .now)) (s .args .dc) (s .args .area) (s .args .src) (s .args .from) (s .args .rop) (u .uses-src .ensures) (i .if1 .taken)) (p .pattern-fill .ensures)
 
 target-of-requires : tie.Need-target-of-requires
 target-of-requires c κs = search needs
@@ -49,77 +57,99 @@ enum-told-4 c = search needs
 enum-known-source : tie.Need-enum-known-source
 enum-known-source c = search needs
 
-where-is-requires : tie.Need-where-is-requires
-where-is-requires c κs = search needs
-
-where-is-requires-2 : tie.Need-where-is-requires-2
-where-is-requires-2 c κs = search needs
-
 colorref-to-rgb565-requires : tie.Need-colorref-to-rgb565-requires
 colorref-to-rgb565-requires c κs = search needs
 
 blit-at-requires : tie.Need-blit-at-requires
 blit-at-requires c κs =
-    let s = c .before .before .before .before .before .before .before .before .before .before .before .before .before .before .before .before .before in
-    let w = c .before .before .before .before .where-is .ensures in
-    let v = c .before .before .before .where-is2 .ensures in
-    ((within-lent (s .pre) w, within-lent (s .pre) v), beside-found w v)
+    let s = c .before .before .before .before in
+    let t = s .before .before in
+    let i = t .before .before .before in
+    let a = i .before .before in
+    let b = a .before .before .before .before .before .before .before in
+    let v = target-placed _ (b .pre .ready .sound) _ (a .target-of .ensures) (i .id .given .1) in
+    let w = target-placed _ (b .pre .ready .sound) _ (t .target-of2 .ensures) (s .source .given .1) in
+    ((within-lent (b .pre .ready) v, within-lent (b .pre .ready) w), beside-found v w)
 
 mark-dirty-if-requires : tie.Need-mark-dirty-if-requires
 mark-dirty-if-requires c κs =
-    let w = c .before .before .before .before .before .before .before .before .before in
-    let s = w .before .before .before .before .before .before .before .before .before .before .before .before .before in
-    parts _ (s .pre .sound) .count
-
-returns-2 : tie.Need-returns-2
-returns-2 c =
-    let k = c .before .before in
-    let a = k .before .before .before .before .before .args in
-    refused-1 (a .state) (a .dc) (a .area) (a .src) (a .from) (a .rop) (k .before .before .uses-src .ensures) (k .before .if1 .left) (k .target-of .ensures)
-    _ (c .enum-told .given .1)
-
-returns-3 : tie.Need-returns-3
-returns-3 c =
-    let k = c .before .before in
-    let a = k .before .before .before .before .before .args in
-    refused-2 (a .state) (a .dc) (a .area) (a .src) (a .from) (a .rop) (k .before .before .uses-src .ensures) (k .before .if1 .left) (k .target-of .ensures)
-    _ (c .enum-told2 .given .1)
-
-returns-4 : tie.Need-returns-4
-returns-4 c =
-    let j = c .before .before in
-    let i = j .before .before in
-    let k = i .before .before in
-    let a = k .before .before .before .before .before .args in
-    refused-3 (a .state) (a .dc) (a .area) (a .src) (a .from) (a .rop) (k .before .before .uses-src .ensures) (k .before .if1 .left) (k .target-of .ensures)
-    (i .id .given .1) (j .target-of2 .ensures) _ (c .enum-told3 .given .1)
-
-returns-5 : tie.Need-returns-5
-returns-5 c =
-    let j = c .before .before in
-    let i = j .before .before in
-    let k = i .before .before in
-    let a = k .before .before .before .before .before .args in
-    refused-4 (a .state) (a .dc) (a .area) (a .src) (a .from) (a .rop) (k .before .before .uses-src .ensures) (k .before .if1 .left) (k .target-of .ensures)
-    (i .id .given .1) (j .target-of2 .ensures) _ (c .enum-told4 .given .1)
-
-same-length-3 : tie.Need-same-length-3
-same-length-3 c = search needs
+    let a = c .before .before .before .before .before .before .before .before .before .before .before .before .before .before .before in
+    let t = a .before .before in
+    let s = t .before .before .before .before .before .before .before in
+    (s .pre .is-record, ap (λ (i : Site). i .slot) (target-placed _ (s .pre .ready .sound) _ (t .target-of .ensures) (a .id .given .1) .same))
 
 same-length-4 : tie.Need-same-length-4
 same-length-4 c = search needs
 
+returns-2 : tie.Need-returns-2
+returns-2 c =
+    let t = c .before .before in
+    let i = t .before .before in
+    let u = i .before in
+    let s = u .before .before .before .before in
+    refusal (s .pre .is-record) (refused-1 (view (s .args .l .now)) (s .args .dc) (s .args .area) (s .args .src) (s .args .from) (s .args .rop) (u .uses-src .ensures) (i .if1 .left) (t .target-of .ensures) (c .enum-told .given .1))
+
+same-length-5 : tie.Need-same-length-5
+same-length-5 c = search needs
+
+returns-3 : tie.Need-returns-3
+returns-3 c =
+    let t = c .before .before in
+    let i = t .before .before in
+    let u = i .before in
+    let s = u .before .before .before .before in
+    refusal (s .pre .is-record) (refused-2 (view (s .args .l .now)) (s .args .dc) (s .args .area) (s .args .src) (s .args .from) (s .args .rop) (u .uses-src .ensures) (i .if1 .left) (t .target-of .ensures) (c .enum-told2 .given .1))
+
+same-length-6 : tie.Need-same-length-6
+same-length-6 c = search needs
+
+returns-4 : tie.Need-returns-4
+returns-4 c =
+    let t = c .before .before in
+    let i = t .before .before .before in
+    let a = i .before .before in
+    let b = a .before .before in
+    let u = b .before in
+    let s = u .before .before .before .before in
+    refusal (s .pre .is-record) (refused-3 (view (s .args .l .now)) (s .args .dc) (s .args .area) (s .args .src) (s .args .from) (s .args .rop) (u .uses-src .ensures) (b .if1 .left) (a .target-of .ensures) (i .id .given .1) (t .target-of2 .ensures) (c .enum-told3 .given .1))
+
+same-length-7 : tie.Need-same-length-7
+same-length-7 c = search needs
+
+returns-5 : tie.Need-returns-5
+returns-5 c =
+    let t = c .before .before in
+    let i = t .before .before .before in
+    let a = i .before .before in
+    let b = a .before .before in
+    let u = b .before in
+    let s = u .before .before .before .before in
+    refusal (s .pre .is-record) (refused-4 (view (s .args .l .now)) (s .args .dc) (s .args .area) (s .args .src) (s .args .from) (s .args .rop) (u .uses-src .ensures) (b .if1 .left) (a .target-of .ensures) (i .id .given .1) (t .target-of2 .ensures) (c .enum-told4 .given .1))
+
+same-length-8 : tie.Need-same-length-8
+same-length-8 c = search needs
+
+same-length-9 : tie.Need-same-length-9
+same-length-9 c = search needs
+
+same-length-10 : tie.Need-same-length-10
+same-length-10 c = search needs
+
 returns-6 : tie.Need-returns-6
 returns-6 c =
-    let n = c .before .before .before .before .before .before .before .before in
-    let m = n .before .before .before .before in
-    let j = m .before .before in
-    let i = j .before .before in
-    let k = i .before .before in
-    let a = k .before .before .before .before .before .args in
-    accepted (a .state) (a .dc) (a .area) (a .src) (a .from) (a .rop) (k .before .before .uses-src .ensures) (k .before .if1 .left) (k .target-of .ensures)
-    (i .id .given .1) (j .target-of2 .ensures) (m .source .given .1) (n .before .before .where-is .ensures) (n .before .where-is2 .ensures)
-    (n .colorref-to-rgb565 .ensures) (c .before .before .before .before .before .blit-at .ensures) (c .mark-dirty-if .ensures)
+    let m = c .before .before in
+    let b = m .before .before .before .before .before .before in
+    let a = b .before .before .before in
+    let s = a .before .before in
+    let t = s .before .before in
+    let i = t .before .before .before in
+    let d = i .before .before in
+    let e = d .before .before in
+    let u = e .before in
+    let f = u .before .before .before .before in
+    strokes-followed refl (accepted (view (f .args .l .now)) (f .args .dc) (f .args .area) (f .args .src) (f .args .from) (f .args .rop) (u .uses-src .ensures) (e .if1 .left) (d .target-of .ensures) (i .id .given .1) (t .target-of2 .ensures) (s .source .given .1))
+    (blit-made (target-placed _ (f .pre .ready .sound) _ (d .target-of .ensures) (i .id .given .1)) (target-placed _ (f .pre .ready .sound) _ (t .target-of2 .ensures) (s .source .given .1))
+    _ _ _ (a .colorref-to-rgb565 .ensures) (b .blit-at .ensures) (m .mark-dirty-if .ensures))
 
 pub blit-spec : {M : Type 1} → statement M
 blit-spec =
@@ -129,6 +159,7 @@ blit-spec =
     pattern-fill-requires
     same-length
     same-length-2
+    same-length-3
     returns
     target-of-requires
     enum-told
@@ -138,15 +169,18 @@ blit-spec =
     enum-told-3
     enum-told-4
     enum-known-source
-    where-is-requires
-    where-is-requires-2
     colorref-to-rgb565-requires
     blit-at-requires
     mark-dirty-if-requires
-    returns-2
-    returns-3
-    returns-4
-    returns-5
-    same-length-3
     same-length-4
+    returns-2
+    same-length-5
+    returns-3
+    same-length-6
+    returns-4
+    same-length-7
+    returns-5
+    same-length-8
+    same-length-9
+    same-length-10
     returns-6)

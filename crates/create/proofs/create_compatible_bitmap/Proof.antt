@@ -1,16 +1,16 @@
 -- `create::create_compatible_bitmap` meets its contract. Assumes nothing.
 use native.Mathlib.Omega.{arith}
-use borrow.Author.Needs.{needs}
 use Rattle.laws.proofs.Test.{together}
-use Rattle.create.proofs.Made.{too-wide, too-high, side-taken, sized}
+use Rattle.create.proofs.Made.{side-taken, too-wide, too-high, sized}
+use borrow.Author.Needs.{needs}
 use Rattle.create.proofs.create_compatible_bitmap.Statement.{statement}
 use Rattle.create.proofs.create_compatible_bitmap.Tie as tie
 
 returns : tie.Need-returns
-returns c = too-wide _ _ _ _ (omega arith)
+returns c = λ panel. too-wide _ _ _ (c .before .before .before .pre .is-record) (omega arith) _
 
 returns-2 : tie.Need-returns-2
-returns-2 c = too-high _ _ _ _ (omega arith) (omega arith)
+returns-2 c = λ panel. too-high _ _ _ (omega arith) (c .before .before .before .before .pre .is-record) (omega arith) _
 
 side-of-requires : tie.Need-side-of-requires
 side-of-requires c κs = search needs
@@ -18,20 +18,30 @@ side-of-requires c κs = search needs
 side-of-requires-2 : tie.Need-side-of-requires-2
 side-of-requires-2 c κs = search needs
 
+new-bitmap-requires : tie.Need-new-bitmap-requires
+new-bitmap-requires c κs = search needs
+
 make-requires : tie.Need-make-requires
 make-requires c κs =
-    let a = c .before .before .before .before .before .before .args in
-    let wide = side-taken (a .width) (c .before .before .side-of .ensures) (omega arith) in
-    let high = side-taken (a .height) (c .before .side-of2 .ensures) (omega arith) in
-    search (needs, together)
+    let n = c .before .before in
+    let s = n .before in
+    let a = s .before in
+    let b = a .before .before .before .before .before in
+    (b .pre, rw (n .new-bitmap .ensures) (together (side-taken (b .args .width) (a .side-of .ensures) (omega arith)) (side-taken (b .args .height) (s .side-of2 .ensures) (omega arith))))
 
 same-length : tie.Need-same-length
 same-length c = search needs
 
+same-length-2 : tie.Need-same-length-2
+same-length-2 c = search needs
+
 returns-3 : tie.Need-returns-3
 returns-3 c =
-    let p = c .before .before .before .before in
-    sized _ _ _ _ (omega arith) (omega arith) (p .before .side-of .ensures) (p .side-of2 .ensures) (c .before .before .make .ensures)
+    let m = c .before .before .before .before in
+    let n = m .before .before .before in
+    let s = n .before in
+    let a = s .before in
+    λ panel. sized _ _ _ (omega arith) (omega arith) (a .side-of .ensures) (s .side-of2 .ensures) (rw (n .new-bitmap .ensures) at (m .make .ensures panel))
 
 pub create-compatible-bitmap-spec : {M : Type 1} → statement M
 create-compatible-bitmap-spec =
@@ -41,6 +51,8 @@ create-compatible-bitmap-spec =
     returns-2
     side-of-requires
     side-of-requires-2
+    new-bitmap-requires
     make-requires
     same-length
+    same-length-2
     returns-3)

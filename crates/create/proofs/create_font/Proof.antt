@@ -11,10 +11,14 @@ make-requires c κs = search needs
 same-length : tie.Need-same-length
 same-length c = search needs
 
+same-length-2 : tie.Need-same-length-2
+same-length-2 c = search needs
+
 returns : tie.Need-returns
 returns c =
-    let p = c .before .before .before .before .before in
-    rw (← toZ-ofZ w32 (p .args .height) (p .fits .height)) (c .before .before .make .ensures)
+    let m = c .before .before .before .before in
+    let s = m .before .before .before .before .before in
+    rw (← toZ-ofZ w32 (s .args .height) (s .fits .height)) (m .make .ensures)
 
 pub create-font-spec : {M : Type 1} → statement M
-create-font-spec = tie.close (tie.spec make-requires same-length returns)
+create-font-spec = tie.close (tie.spec make-requires same-length same-length-2 returns)

@@ -1,31 +1,57 @@
 -- `create::make` meets its contract. Assumes nothing.
 use native.Mathlib.Omega.{arith}
-use borrow.Author.Needs.{needs}
+use Rattle.numbers.specs.Layout.{storeLenPlace, countPlace}
+use Rattle.numbers.proofs.Seen.{record-length, store-len-seen}
 use Rattle.sound.proofs.Bytes.{bytes-le}
 use Rattle.sound.proofs.Sound.{parts}
 use Rattle.create.proofs.Made.{full, short, new}
+use borrow.Author.Needs.{needs}
 use Rattle.create.proofs.make.Statement.{statement}
 use Rattle.create.proofs.make.Tie as tie
 
+slice-read-count : tie.Need-slice-read-count
+slice-read-count c = omega (arith, record-length _ (c .before .before .before .pre .0 .is-record))
+
+cast-count : tie.Need-cast-count
+cast-count c = omega (arith, c .slice-known3 .given countPlace)
+
 returns : tie.Need-returns
-returns c = full _ _ _ (omega arith)
+returns c = λ panel. full _ (c .before .before .before .before .pre .0 .is-record) _ (omega arith) _
 
 start-of-requires : tie.Need-start-of-requires
-start-of-requires c κs = let s = parts _ (c .before .before .before .pre .0) in (s .count, (search needs, s .slots))
+start-of-requires c κs =
+    let s = c .before .before .before .before .before in
+    (s .pre .0 .is-record, (parts _ (s .pre .0 .ready .sound) .slots, search needs))
 
-bytes-of-requires : tie.Need-bytes-of-requires
-bytes-of-requires c κs = search needs
+object-bytes-requires : tie.Need-object-bytes-requires
+object-bytes-requires c κs = search needs
 
 add-if2 : tie.Need-add-if2
 add-if2 c =
-    let p = c .before .before .before .before .before in
-    omega (arith, bytes-le (p .args .object) (p .pre .1 .0), c .before .start-of .ensures .1, c .bytes-of .ensures)
+    let s = c .before in
+    let a = s .before .before .before .before .before .before in
+    omega (arith, bytes-le (a .args .object) (a .pre .1), s .start-of .ensures .1, c .object-bytes .ensures)
+
+slice-read-if2 : tie.Need-slice-read-if2
+slice-read-if2 c = omega (arith, record-length _ (c .before .before .before .before .before .before .before .before .pre .0 .is-record))
+
+cast-if2 : tie.Need-cast-if2
+cast-if2 c = omega (arith, c .slice-known4 .given storeLenPlace)
+
+same-length : tie.Need-same-length
+same-length c = search needs
 
 returns-2 : tie.Need-returns-2
-returns-2 c = short _ _ _ (omega arith) (c .before .before .before .start-of .ensures .0) (c .before .before .bytes-of .ensures) (omega arith)
+returns-2 c =
+    let o = c .before .before in
+    let s = o .before in
+    let a = s .before .before .before .before .before .before in
+    λ panel. short _ (a .pre .0 .is-record) _ (omega arith) (s .start-of .ensures .0) (o .object-bytes .ensures) (omega arith) _
 
 zero-requires : tie.Need-zero-requires
-zero-requires c κs = search needs
+zero-requires c κs =
+    let s = c .before .before .before .before .before .before .before .before .before .before in
+    omega (arith, store-len-seen (s .args .l .now), s .pre .0 .ready .store)
 
 alloc-handle-requires : tie.Need-alloc-handle-requires
 alloc-handle-requires c κs = search needs
@@ -33,26 +59,39 @@ alloc-handle-requires c κs = search needs
 append-requires : tie.Need-append-requires
 append-requires c κs = search needs
 
-same-length : tie.Need-same-length
-same-length c = search needs
+same-length-2 : tie.Need-same-length-2
+same-length-2 c = search needs
+
+same-length-3 : tie.Need-same-length-3
+same-length-3 c = search needs
 
 returns-3 : tie.Need-returns-3
 returns-3 c =
-    let p = c .before .before .before .before .before .before in
-    new _ _ _ (omega arith) (p .before .before .before .start-of .ensures .0) (p .before .before .bytes-of .ensures) (omega arith)
-    (c .before .before .before .before .zero .ensures) (c .before .alloc-handle .ensures) (c .append .ensures)
+    let a = c .before .before in
+    let b = a .before .before in
+    let z = b .before .before .before .before in
+    let o = z .before .before .before .before in
+    let s = o .before in
+    let d = s .before .before .before .before .before .before in
+    λ panel. new _ (d .pre .0 .is-record) _ (omega arith) (s .start-of .ensures .0) (o .object-bytes .ensures) (omega arith) (z .zero .ensures) (b .alloc-handle .ensures) (a .append .ensures) panel
 
 pub make-spec : {M : Type 1} → statement M
 make-spec =
     tie.close
     (tie.spec
+    slice-read-count
+    cast-count
     returns
     start-of-requires
-    bytes-of-requires
+    object-bytes-requires
     add-if2
+    slice-read-if2
+    cast-if2
+    same-length
     returns-2
     zero-requires
     alloc-handle-requires
     append-requires
-    same-length
+    same-length-2
+    same-length-3
     returns-3)

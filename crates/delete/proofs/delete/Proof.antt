@@ -1,9 +1,8 @@
 -- `delete::delete` meets its contract. Assumes nothing.
-use mathlib.Core.Path.{sym, _∙_}
+use mathlib.Core.Path.{refl, sym, _∙_}
+use Rattle.plan.proofs.Followed.{acceptance-same}
+use Rattle.delete.proofs.Gone.{found-in, stays, is-none, leaves, gone-followed}
 use borrow.Author.Needs.{needs}
-use Rattle.gdi.proofs.Scan.{found-count}
-use Rattle.sound.proofs.Sound.{parts}
-use Rattle.delete.proofs.Gone.{stays, is-none, leaves}
 use Rattle.delete.proofs.delete.Statement.{statement}
 use Rattle.delete.proofs.delete.Tie as tie
 
@@ -11,19 +10,20 @@ is-stock-handle-requires : tie.Need-is-stock-handle-requires
 is-stock-handle-requires c κs = search needs
 
 returns : tie.Need-returns
-returns c = stays _ _ _ _ _ _ (sym (c .before .is-stock-handle .ensures) ∙ c .if1 .taken)
+returns c = λ panel. acceptance-same (c .before .before .before .before .pre .is-record) refl (stays _ _ _ _ _ (sym (c .before .is-stock-handle .ensures) ∙ c .if1 .taken))
 
 find-requires : tie.Need-find-requires
-find-requires c κs = parts _ (c .before .before .before .pre .0) .count
+find-requires c κs = search needs
 
 enum-known-i : tie.Need-enum-known-i
 enum-known-i c = search needs
 
 take-out-requires : tie.Need-take-out-requires
 take-out-requires c κs =
-    let f = c .before .before .before .before in
-    let e = f .before .before .before .before in
-    (e .pre .0, (found-count (e .args .state) _ (sym (f .find .ensures) ∙ c .before .before .i .given .1), e .pre .1))
+    let i = c .before .before .before in
+    let f = i .before .before in
+    let s = f .before .before .before .before .before .before in
+    (s .pre .is-record, (s .pre .ready .sound, (found-in (s .args .l .now) _ (f .find .ensures) (i .i .given .1), s .pre .ready .store)))
 
 enum-told : tie.Need-enum-told
 enum-told c = search needs
@@ -31,17 +31,28 @@ enum-told c = search needs
 same-length : tie.Need-same-length
 same-length c = search needs
 
+same-length-2 : tie.Need-same-length-2
+same-length-2 c = search needs
+
 returns-2 : tie.Need-returns-2
 returns-2 c =
-    let t = c .before .before .take-out .ensures in
-    let f = c .before .before .before .before .before .before .before in
-    leaves _ _ _ _ _ _ (sym (f .before .before .is-stock-handle .ensures) ∙ f .before .if1 .left)
-    (f .find .ensures) (c .before .before .before .before .before .i .given .1) (t .0) (t .1)
+    let t = c .before .before .before .before in
+    let i = t .before .before .before .before in
+    let f = i .before .before in
+    let a = f .before .before in
+    let b = a .before in
+    gone-followed _ _ _ _ _ (leaves _ _ _ _ _ (sym (b .is-stock-handle .ensures) ∙ a .if1 .left) (f .find .ensures) (i .i .given .1)) refl refl (t .take-out .ensures .0) (t .take-out .ensures .1)
+
+same-length-3 : tie.Need-same-length-3
+same-length-3 c = search needs
 
 returns-3 : tie.Need-returns-3
 returns-3 c =
     let f = c .before .before in
-    is-none _ _ _ _ _ _ (sym (f .before .before .is-stock-handle .ensures) ∙ f .before .if1 .left) (f .find .ensures) (c .enum-told .given .1)
+    let i = f .before .before in
+    let a = i .before in
+    let s = a .before .before .before in
+    λ panel. acceptance-same (s .pre .is-record) refl (is-none _ _ _ _ _ (sym (a .is-stock-handle .ensures) ∙ i .if1 .left) (f .find .ensures) (c .enum-told .given .1))
 
 pub delete-spec : {M : Type 1} → statement M
 delete-spec =
@@ -54,5 +65,7 @@ delete-spec =
     take-out-requires
     enum-told
     same-length
+    same-length-2
     returns-2
+    same-length-3
     returns-3)

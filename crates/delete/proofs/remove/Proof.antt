@@ -1,10 +1,11 @@
 -- `delete::remove` meets its contract. Assumes nothing.
-use mathlib.Core.Path.{sym, _∙_}
+use mathlib.Core.Path.{refl, sym, _∙_, ap}
 use native.Mathlib.Omega.{arith}
+use Rattle.lookup.proofs.Found.{found-room}
+use Rattle.plan.specs.Answer.{removed}
+use Rattle.plan.proofs.Followed.{acceptance-same}
+use Rattle.delete.proofs.Gone.{found-in, object-read, stays, is-none, leaves, gone-followed}
 use borrow.Author.Needs.{needs}
-use Rattle.gdi.proofs.Scan.{found-count, found-below}
-use Rattle.sound.proofs.Sound.{parts}
-use Rattle.delete.proofs.Gone.{stays, is-none, leaves}
 use Rattle.delete.proofs.remove.Statement.{statement}
 use Rattle.delete.proofs.remove.Tie as tie
 
@@ -12,31 +13,92 @@ is-stock-handle-requires : tie.Need-is-stock-handle-requires
 is-stock-handle-requires c κs = search needs
 
 returns : tie.Need-returns
-returns c = stays _ _ _ _ _ _ (sym (c .before .is-stock-handle .ensures) ∙ c .if1 .taken)
+returns c = λ panel. acceptance-same (c .before .before .before .before .pre .is-record) refl (stays _ _ _ _ _ (sym (c .before .is-stock-handle .ensures) ∙ c .if1 .taken))
 
 find-requires : tie.Need-find-requires
-find-requires c κs = parts _ (c .before .before .before .pre .0) .count
+find-requires c κs = search needs
 
 enum-known-i : tie.Need-enum-known-i
 enum-known-i c = search needs
 
-mul-s : tie.Need-mul-s
-mul-s c =
-    let f = c .before .before .before in
-    let e = f .before .before .before .before in
-    omega (arith, found-below (e .args .t1) _ (parts _ (e .pre .0) .count) (sym (f .find .ensures) ∙ c .before .i .given .1))
+mul-p : tie.Need-mul-p
+mul-p c =
+    let i = c .before in
+    let f = i .before .before in
+    let s = f .before .before .before .before .before .before in
+    omega (arith, found-room _ (s .pre .is-record) _ (f .find .ensures) (i .i .given .1))
 
-element-copy-out-s : tie.Need-element-copy-out-s
-element-copy-out-s c =
-    let f = c .before .before .before in
-    let e = f .before .before .before .before in
-    omega (arith, found-below (e .args .t1) _ (parts _ (e .pre .0) .count) (sym (f .find .ensures) ∙ c .before .i .given .1))
+add-p : tie.Need-add-p
+add-p c =
+    let i = c .before in
+    let f = i .before .before in
+    let s = f .before .before .before .before .before .before in
+    omega (arith, found-room _ (s .pre .is-record) _ (f .find .ensures) (i .i .given .1))
+
+add-first : tie.Need-add-first
+add-first c =
+    let i = c .before in
+    let f = i .before .before in
+    let s = f .before .before .before .before .before .before in
+    omega (arith, found-room _ (s .pre .is-record) _ (f .find .ensures) (i .i .given .1))
+
+add-end : tie.Need-add-end
+add-end c =
+    let i = c .before in
+    let f = i .before .before in
+    let s = f .before .before .before .before .before .before in
+    omega (arith, found-room _ (s .pre .is-record) _ (f .find .ensures) (i .i .given .1))
+
+add-object-of : tie.Need-add-object-of
+add-object-of c =
+    let i = c .before in
+    let f = i .before .before in
+    let s = f .before .before .before .before .before .before in
+    omega (arith, found-room _ (s .pre .is-record) _ (f .find .ensures) (i .i .given .1))
+
+mul-object-of : tie.Need-mul-object-of
+mul-object-of c =
+    let i = c .before in
+    let f = i .before .before in
+    let s = f .before .before .before .before .before .before in
+    omega (arith, found-room _ (s .pre .is-record) _ (f .find .ensures) (i .i .given .1))
+
+slice-read-object-of : tie.Need-slice-read-object-of
+slice-read-object-of c =
+    let i = c .before .before in
+    let f = i .before .before in
+    let s = f .before .before .before .before .before .before in
+    omega (arith, found-room _ (s .pre .is-record) _ (f .find .ensures) (i .i .given .1))
+
+mul-object-of-2 : tie.Need-mul-object-of-2
+mul-object-of-2 c =
+    let i = c .before .before in
+    let f = i .before .before in
+    let s = f .before .before .before .before .before .before in
+    omega (arith, found-room _ (s .pre .is-record) _ (f .find .ensures) (i .i .given .1))
+
+sub-object-of : tie.Need-sub-object-of
+sub-object-of c = search needs
+
+part-object-of-start : tie.Need-part-object-of-start
+part-object-of-start c = search needs
+
+part-object-of-end : tie.Need-part-object-of-end
+part-object-of-end c =
+    let i = c .before .before .before in
+    let f = i .before .before in
+    let s = f .before .before .before .before .before .before in
+    omega (arith, found-room _ (s .pre .is-record) _ (f .find .ensures) (i .i .given .1))
+
+object-of-requires : tie.Need-object-of-requires
+object-of-requires c κs = search needs
 
 take-out-requires : tie.Need-take-out-requires
 take-out-requires c κs =
-    let f = c .before .before .before .before .before in
-    let e = f .before .before .before .before in
-    (e .pre .0, (found-count (e .args .t1) _ (sym (f .find .ensures) ∙ c .before .before .before .i .given .1), e .pre .1))
+    let i = c .before .before .before .before .before .before .before in
+    let f = i .before .before in
+    let s = f .before .before .before .before .before .before in
+    (s .pre .is-record, (s .pre .ready .sound, (found-in (s .args .l .now) _ (f .find .ensures) (i .i .given .1), s .pre .ready .store)))
 
 enum-told : tie.Need-enum-told
 enum-told c = search needs
@@ -44,17 +106,32 @@ enum-told c = search needs
 same-length : tie.Need-same-length
 same-length c = search needs
 
+same-length-2 : tie.Need-same-length-2
+same-length-2 c = search needs
+
 returns-2 : tie.Need-returns-2
 returns-2 c =
-    let t = c .before .before .take-out .ensures in
-    let f = c .before .before .before .before .before .before .before .before in
-    leaves _ _ _ _ _ _ (sym (f .before .before .is-stock-handle .ensures) ∙ f .before .if1 .left)
-    (f .find .ensures) (c .before .before .before .before .before .before .i .given .1) (t .0) (t .1)
+    let t = c .before .before .before .before in
+    let o = t .before .before .before in
+    let i = o .before .before .before .before .before in
+    let f = i .before .before in
+    let a = f .before .before in
+    let b = a .before in
+    let s = b .before .before .before in
+    gone-followed _ _ _ (s .args .l .now) _ (leaves _ _ _ _ _ (sym (b .is-stock-handle .ensures) ∙ a .if1 .left) (f .find .ensures) (i .i .given .1))
+    (ap removed (object-read (s .args .l .now) (s .pre .is-record) _ (found-in (s .args .l .now) _ (f .find .ensures) (i .i .given .1)) (o .object-of .ensures))) refl
+    (t .take-out .ensures .0) (t .take-out .ensures .1)
+
+same-length-3 : tie.Need-same-length-3
+same-length-3 c = search needs
 
 returns-3 : tie.Need-returns-3
 returns-3 c =
     let f = c .before .before in
-    is-none _ _ _ _ _ _ (sym (f .before .before .is-stock-handle .ensures) ∙ f .before .if1 .left) (f .find .ensures) (c .enum-told .given .1)
+    let i = f .before .before in
+    let a = i .before in
+    let s = a .before .before .before in
+    λ panel. acceptance-same (s .pre .is-record) refl (is-none _ _ _ _ _ (sym (a .is-stock-handle .ensures) ∙ i .if1 .left) (f .find .ensures) (c .enum-told .given .1))
 
 pub remove-spec : {M : Type 1} → statement M
 remove-spec =
@@ -64,10 +141,22 @@ remove-spec =
     returns
     find-requires
     enum-known-i
-    mul-s
-    element-copy-out-s
+    mul-p
+    add-p
+    add-first
+    add-end
+    add-object-of
+    mul-object-of
+    slice-read-object-of
+    mul-object-of-2
+    sub-object-of
+    part-object-of-start
+    part-object-of-end
+    object-of-requires
     take-out-requires
     enum-told
     same-length
+    same-length-2
     returns-2
+    same-length-3
     returns-3)

@@ -1,83 +1,85 @@
 -- `dirty::mark_dirty` meets its contract. Assumes nothing.
-use mathlib.Core.Path.{sym, _∙_}
-use Prim.Native.Nat.{_<_}
+use mathlib.Core.Path.{refl}
 use native.Mathlib.Omega.{arith}
+use Rattle.numbers.proofs.Seen.{record-length}
+use Rattle.dirty.proofs.Marks.{mark-panel, mark-stock, slot-found, mark-found, mark-none}
+use Rattle.dirty.proofs.Numbers.{nothing-done, found-in, stored-as, stock-set}
 use borrow.Author.Needs.{needs}
-use Rattle.gdi.proofs.Scan.{found-below}
-use Rattle.dirty.proofs.Marks.{mark-panel, mark-stock, mark-found, mark-none}
 use Rattle.dirty.proofs.mark_dirty.Statement.{statement}
 use Rattle.dirty.proofs.mark_dirty.Tie as tie
-use Rattle.std.proofs.num.wrapping_add_u64.Reads as wrapping-add-u64-reads
 
 enum-told : tie.Need-enum-told
 enum-told c = search needs
 
-wrapping-add-u64-requires : tie.Need-wrapping-add-u64-requires
-wrapping-add-u64-requires c κs = search needs
+count-frame-requires : tie.Need-count-frame-requires
+count-frame-requires c κs = search needs
 
 enum-known-id : tie.Need-enum-known-id
 enum-known-id c = search needs
 
+slice-write-l : tie.Need-slice-write-l
+slice-write-l c = omega (arith, record-length _ (c .before .before .before .before .before .pre .0))
+
+same-length : tie.Need-same-length
+same-length c = search needs
+
 returns : tie.Need-returns
-returns c = mark-stock _ (c .before .before .id .given .1) (c .if1 .taken)
+returns c = stored-as (mark-stock _ (c .before .before .id .given .1) (c .if1 .taken)) (stock-set _ (c .before .before .before .before .before .pre .0))
 
-find-requires : tie.Need-find-requires
-find-requires c κs = search needs
+enum-known-slot : tie.Need-enum-known-slot
+enum-known-slot c = search needs
 
-enum-known-i : tie.Need-enum-known-i
-enum-known-i c = search needs
-
-below : (c : tie.After-known-told2) → c .before .i .given .0 .0 < 256
-below c =
-    let s = c .before .before .before .before .before .before .before .before in
-    found-below (s .args .t1) (c .before .before .before .before .before .before .id .given .0 .0) (s .pre) (sym (c .before .before .before .find .ensures) ∙ c .before .i .given .1)
-
-mul-s : tie.Need-mul-s
-mul-s c = omega (arith, below c)
-
-element-copy-out-s : tie.Need-element-copy-out-s
-element-copy-out-s c = below c
-
-mark-object-requires : tie.Need-mark-object-requires
-mark-object-requires c κs = search needs
-
-mul-t18 : tie.Need-mul-t18
-mul-t18 c = omega (arith, below (c .before .before))
-
-element-set-from-after : tie.Need-element-set-from-after
-element-set-from-after c = below (c .before .before)
+mark-slot-requires : tie.Need-mark-slot-requires
+mark-slot-requires c κs =
+    let s = c .before .before in
+    let i = s .before .before in
+    let a = i .before .before in
+    let b = a .before .before .before in
+    (b .pre .0, found-in _ _ (slot-found _ (a .id .given .1) (i .if1 .left) (b .pre .1) (s .slot .given .1)))
 
 enum-told-2 : tie.Need-enum-told-2
 enum-told-2 c = search needs
 
+same-length-2 : tie.Need-same-length-2
+same-length-2 c = search needs
+
 returns-2 : tie.Need-returns-2
-returns-2 c = mark-panel _ (c .before .enum-told .given .1) (c .wrapping-add-u64 .ensures)
+returns-2 c = stored-as (mark-panel _ (c .before .before .before .before .enum-told .given .1) refl) (c .before .before .count-frame .ensures)
+
+same-length-3 : tie.Need-same-length-3
+same-length-3 c = search needs
 
 returns-3 : tie.Need-returns-3
 returns-3 c =
-    let f = c .before .before .before .before .before in
-    let s = f .before in
-    mark-found _ (s .before .before .id .given .1) (s .if1 .left) (sym (f .find .ensures) ∙ c .before .before .before .i .given .1) (c .mark-object .ensures)
+    let m = c .before .before in
+    let s = m .before .before .before in
+    let i = s .before .before in
+    let a = i .before .before in
+    let b = a .before .before .before in
+    stored-as (mark-found _ (a .id .given .1) (i .if1 .left) (slot-found _ (a .id .given .1) (i .if1 .left) (b .pre .1) (s .slot .given .1)) refl) (m .mark-slot .ensures)
 
 returns-4 : tie.Need-returns-4
-returns-4 c = mark-none _ (c .before .before .before .before .before .id .given .1) (c .before .before .before .if1 .left) (sym (c .before .before .find .ensures) ∙ c .enum-told2 .given .1)
+returns-4 c =
+    let i = c .before .before in
+    let a = i .before .before in
+    let s = a .before .before .before in
+    stored-as (mark-none _ (a .id .given .1) (i .if1 .left) (slot-found _ (a .id .given .1) (i .if1 .left) (s .pre .1) (c .enum-told2 .given .1))) (nothing-done _ (s .pre .0))
 
 pub mark-dirty-spec : {M : Type 1} → statement M
 mark-dirty-spec =
     tie.close
     (tie.spec
     enum-told
-    wrapping-add-u64-requires
+    count-frame-requires
     enum-known-id
+    slice-write-l
+    same-length
     returns
-    find-requires
-    enum-known-i
-    mul-s
-    element-copy-out-s
-    mark-object-requires
-    mul-t18
-    element-set-from-after
+    enum-known-slot
+    mark-slot-requires
     enum-told-2
+    same-length-2
     returns-2
+    same-length-3
     returns-3
     returns-4)

@@ -3,22 +3,30 @@ use mathlib.Core.Path.{_≡_, refl, sym, _∙_}
 use Prim.Native.Nat.{_≤_, _-_}
 use native.Mathlib.Omega.{arith}
 use borrow.Author.Needs.{needs}
+use Rattle.numbers.specs.Layout.{nextHandlePlace}
+use Rattle.numbers.specs.Block.{at}
+use Rattle.numbers.specs.View.{view}
+use Rattle.numbers.proofs.Seen.{record-length}
 use Rattle.handles.specs.Handles.{ahead, firstFree, tries, newHandle}
 use Rattle.handles.proofs.Search.{hit, miss, end, ahead-next}
 use Rattle.handles.proofs.alloc_handle.Statement.{statement}
 use Rattle.handles.proofs.alloc_handle.Tie as tie
 
 abbrev Inv-loop : tie.InvT-loop
-Inv-loop state h₀ i₀ h i =
+Inv-loop l h₀ i₀ h i =
     (i ≤ tries)
-    × ((h ≡ ahead (state .«next_handle») i)
-    × (firstFree (state .objects) (state .count) (state .«next_handle») i (tries - i) ≡ newHandle state))
+    × ((h ≡ ahead (at l nextHandlePlace) i)
+    × (firstFree (view l .objects) (view l .count) (at l nextHandlePlace) i (tries - i) ≡ newHandle (view l)))
 
 abbrev μ-loop : tie.MeasureT-loop
-μ-loop state h₀ i₀ h i = tries - i
+μ-loop l h₀ i₀ h i = tries - i
+
+shared-slice-read-h : tie.Need-shared-slice-read-h Inv-loop μ-loop
+shared-slice-read-h c = omega (arith, record-length _ (c .before .before .pre))
 
 loop-holds : tie.Need-loop-holds Inv-loop μ-loop
-loop-holds c = (omega arith, (omega arith, refl))
+unfolding view
+loop-holds c = (omega arith, (omega (arith, c .shared-slice-known2 .given nextHandlePlace), refl))
 
 is-free-requires : tie.Need-is-free-requires Inv-loop μ-loop
 is-free-requires c κs = search needs
@@ -61,6 +69,7 @@ alloc-handle-spec =
     (tie.spec
     Inv-loop
     μ-loop
+    shared-slice-read-h
     loop-holds
     is-free-requires
     returns

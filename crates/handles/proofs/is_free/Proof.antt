@@ -1,6 +1,7 @@
 -- `handles::is_free` meets its contract. Assumes nothing.
 use mathlib.Core.Path.{sym, _∙_}
 use borrow.Author.Needs.{needs}
+use Rattle.handles.proofs.Absent.{found-live, not-found-absent}
 use Rattle.handles.proofs.Search.{zero-taken, stock-taken, by-absent}
 use Rattle.handles.proofs.is_free.Statement.{statement}
 use Rattle.handles.proofs.is_free.Tie as tie
@@ -14,12 +15,38 @@ is-stock-handle-requires c κs = search needs
 returns-2 : tie.Need-returns-2
 returns-2 c = stock-taken _ _ _ (c .before .before .if1 .left) (sym (c .before .is-stock-handle .ensures) ∙ c .if2 .taken)
 
-is-absent-requires : tie.Need-is-absent-requires
-is-absent-requires c κs = search needs
+find-requires : tie.Need-find-requires
+find-requires c κs = search needs
+
+enum-told : tie.Need-enum-told
+enum-told c = search needs
+
+enum-told-2 : tie.Need-enum-told-2
+enum-told-2 c = search needs
 
 returns-3 : tie.Need-returns-3
-returns-3 c = by-absent _ _ _ (c .before .before .before .if1 .left) (sym (c .before .before .is-stock-handle .ensures) ∙ c .before .if2 .left) (c .is-absent .ensures)
+returns-3 c =
+    let f = c .before .before in
+    let s = f .before .before in
+    by-absent _ _ _ (s .before .if1 .left) (sym (s .is-stock-handle .ensures) ∙ f .before .if2 .left)
+    (found-live _ _ _ (sym (f .find .ensures) ∙ c .enum-told .given .1))
+
+returns-4 : tie.Need-returns-4
+returns-4 c =
+    let f = c .before .before in
+    let s = f .before .before in
+    by-absent _ _ _ (s .before .if1 .left) (sym (s .is-stock-handle .ensures) ∙ f .before .if2 .left)
+    (not-found-absent _ _ _ (sym (f .find .ensures) ∙ c .enum-told2 .given .1))
 
 pub is-free-spec : {M : Type 1} → statement M
 is-free-spec =
-    tie.close (tie.spec returns is-stock-handle-requires returns-2 is-absent-requires returns-3)
+    tie.close
+    (tie.spec
+    returns
+    is-stock-handle-requires
+    returns-2
+    find-requires
+    enum-told
+    enum-told-2
+    returns-3
+    returns-4)

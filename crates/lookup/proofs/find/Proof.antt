@@ -1,30 +1,48 @@
 -- `lookup::find` meets its contract. Assumes nothing.
-use mathlib.Core.Path.{_≡_, refl, sym, _∙_}
+use mathlib.Core.Path.{_≡_, sym, _∙_}
 use Prim.Native.Nat.{_≤_, _-_}
 use native.Mathlib.Omega.{arith}
+use lib.ListN.{length}
 use borrow.Author.Needs.{needs}
-use Rattle.gdi.specs.Lookup.{scan}
-use Rattle.gdi.proofs.Scan.{hit, miss, end, start}
+use Rattle.gdi.specs.Lookup.{scan, findOf}
+use Rattle.gdi.proofs.Scan.{hit, miss, end}
+use Rattle.numbers.specs.Layout.{recordSize, countPlace}
+use Rattle.numbers.proofs.Seen.{record-length, record-count, handle-seen}
+use Rattle.numbers.specs.View.{view}
+use Rattle.lookup.proofs.Found.{scan-start}
 use Rattle.lookup.proofs.find.Statement.{statement}
 use Rattle.lookup.proofs.find.Tie as tie
 
 abbrev Inv-loop : tie.InvT-loop
-Inv-loop handle state n i₀ i = (i ≤ n) × ((n ≤ 256) × (scan (state .objects) handle i (n - i) ≡ scan (state .objects) handle 0 n))
+Inv-loop l handle n i₀ i =
+    (i ≤ n) × ((n ≤ 256) × ((length l ≡ recordSize) × (scan (view l .objects) handle i (n - i) ≡ findOf (view l) handle)))
 
 abbrev μ-loop : tie.MeasureT-loop
-μ-loop handle state n i₀ i = n - i
+μ-loop l handle n i₀ i = n - i
+
+shared-slice-read-n : tie.Need-shared-slice-read-n Inv-loop μ-loop
+shared-slice-read-n c = omega (arith, record-length _ (c .before .pre))
+
+cast-n : tie.Need-cast-n Inv-loop μ-loop
+cast-n c = omega (arith, c .shared-slice-known .given countPlace)
 
 loop-holds : tie.Need-loop-holds Inv-loop μ-loop
-loop-holds c = (search needs, (search needs, start _ _ 0 _ refl))
+loop-holds c = (search needs, (record-count _ (c .before .pre), (record-length _ (c .before .pre), scan-start _ _)))
 
 mul-if1 : tie.Need-mul-if1 Inv-loop μ-loop
 mul-if1 c = omega arith
 
-element-copy-out-if1 : tie.Need-element-copy-out-if1 Inv-loop μ-loop
-element-copy-out-if1 c = omega arith
+add-if1 : tie.Need-add-if1 Inv-loop μ-loop
+add-if1 c = omega arith
+
+mul-if1-2 : tie.Need-mul-if1-2 Inv-loop μ-loop
+mul-if1-2 c = omega arith
+
+shared-slice-read-if1 : tie.Need-shared-slice-read-if1 Inv-loop μ-loop
+shared-slice-read-if1 c = omega arith
 
 returns : tie.Need-returns Inv-loop μ-loop
-returns c = sym (hit _ _ _ _ (c .before .loop-test .taken) (c .if1 .taken)) ∙ c .before .before .loop .inv .1 .1
+returns c = sym (hit _ _ _ _ (c .before .before .loop-test .taken) (handle-seen _ (c .before .before .before .before .before .pre) _ (c .before .before .loop-test .taken) ∙ c .if1 .taken)) ∙ c .before .before .before .loop .inv .1 .1 .1
 
 add-i : tie.Need-add-i Inv-loop μ-loop
 add-i c = omega arith
@@ -33,10 +51,10 @@ loop-less : tie.Need-loop-less Inv-loop μ-loop
 loop-less c = omega arith
 
 loop-again : tie.Need-loop-again Inv-loop μ-loop
-loop-again c = (search needs, (search needs, sym (miss _ _ _ _ (c .before .loop-test .taken) (c .if1 .left)) ∙ c .before .before .loop .inv .1 .1))
+loop-again c = (search needs, (search needs, (search needs, sym (miss _ _ _ _ (c .before .before .loop-test .taken) (λ e. c .if1 .left (sym (handle-seen _ (c .before .before .before .before .before .pre) _ (c .before .before .loop-test .taken)) ∙ e))) ∙ c .before .before .before .loop .inv .1 .1 .1)))
 
 returns-2 : tie.Need-returns-2 Inv-loop μ-loop
-returns-2 c = sym (end _ _ _ _ (c .loop-test .left)) ∙ c .before .loop .inv .1 .1
+returns-2 c = sym (end _ _ _ _ (c .loop-test .left)) ∙ c .before .loop .inv .1 .1 .1
 
 pub find-spec : {M : Type 1} → statement M
 find-spec =
@@ -44,9 +62,13 @@ find-spec =
     (tie.spec
     Inv-loop
     μ-loop
+    shared-slice-read-n
+    cast-n
     loop-holds
     mul-if1
-    element-copy-out-if1
+    add-if1
+    mul-if1-2
+    shared-slice-read-if1
     returns
     add-i
     loop-less

@@ -2,13 +2,26 @@
 use mathlib.Core.Path.{sym, _∙_}
 use native.Mathlib.Omega.{arith}
 use borrow.Author.Needs.{needs}
-use Rattle.gdi.proofs.Scan.{found-below}
-use Rattle.gdi.proofs.Lookup.{dc-screen, dc-created, dc-other, dc-none}
+use Rattle.gdi.proofs.Lookup.{dc-none}
+use Rattle.numbers.proofs.Seen.{record-length}
+use Rattle.lookup.proofs.Found.{dc-of-screen, found-room, found-dc, found-other}
 use Rattle.lookup.proofs.find_dc.Statement.{statement}
 use Rattle.lookup.proofs.find_dc.Tie as tie
 
+sub-dc-of : tie.Need-sub-dc-of
+sub-dc-of c = search needs
+
+part-dc-of-start : tie.Need-part-dc-of-start
+part-dc-of-start c = search needs
+
+part-dc-of-end : tie.Need-part-dc-of-end
+part-dc-of-end c = omega (arith, record-length _ (c .before .before .pre))
+
+dc-of-requires : tie.Need-dc-of-requires
+dc-of-requires c κs = search needs
+
 returns : tie.Need-returns
-returns c = dc-screen _ _ (c .before .if1 .taken)
+returns c = dc-of-screen _ _ (c .before .before .if1 .taken) (c .dc-of .ensures)
 
 find-requires : tie.Need-find-requires
 find-requires c κs = search needs
@@ -16,23 +29,50 @@ find-requires c κs = search needs
 enum-known-i : tie.Need-enum-known-i
 enum-known-i c = search needs
 
-element-copy-out-s : tie.Need-element-copy-out-s
-element-copy-out-s c = found-below (c .before .before .before .before .before .args .t1) (c .before .before .before .before .before .args .handle) (search needs) (sym (c .before .before .before .find .ensures) ∙ c .before .i .given .1)
+mul-p : tie.Need-mul-p
+mul-p c = omega (arith, found-room _ (c .before .before .before .before .before .before .pre) _ (c .before .before .before .find .ensures) (c .before .i .given .1))
 
-mul-s : tie.Need-mul-s
-mul-s c = omega (arith, element-copy-out-s c)
+add-p : tie.Need-add-p
+add-p c = omega (arith, found-room _ (c .before .before .before .before .before .before .pre) _ (c .before .before .before .find .ensures) (c .before .i .given .1))
 
-enum-known-o : tie.Need-enum-known-o
-enum-known-o c = search needs
+add-if2 : tie.Need-add-if2
+add-if2 c = omega (arith, found-room _ (c .before .before .before .before .before .before .pre) _ (c .before .before .before .find .ensures) (c .before .i .given .1))
+
+mul-if2 : tie.Need-mul-if2
+mul-if2 c = omega (arith, found-room _ (c .before .before .before .before .before .before .pre) _ (c .before .before .before .find .ensures) (c .before .i .given .1))
+
+shared-slice-read-if2 : tie.Need-shared-slice-read-if2
+shared-slice-read-if2 c = omega (arith, found-room _ (c .before .before .before .before .before .before .before .pre) _ (c .before .before .before .before .find .ensures) (c .before .before .i .given .1))
+
+returns-2 : tie.Need-returns-2
+returns-2 c = found-other _ (c .before .before .before .before .before .before .before .before .pre) _ (c .before .before .before .before .before .find .ensures) (c .before .before .before .i .given .1) (c .before .before .before .before .before .before .if1 .left) (c .if2 .taken)
+
+add-first : tie.Need-add-first
+add-first c = omega (arith, found-room _ (c .before .before .before .before .before .before .before .before .pre) _ (c .before .before .before .before .before .find .ensures) (c .before .before .before .i .given .1))
+
+add-end : tie.Need-add-end
+add-end c = omega (arith, found-room _ (c .before .before .before .before .before .before .before .before .pre) _ (c .before .before .before .before .before .find .ensures) (c .before .before .before .i .given .1))
+
+mul-dc-of : tie.Need-mul-dc-of
+mul-dc-of c = omega (arith, found-room _ (c .before .before .before .before .before .before .before .before .pre) _ (c .before .before .before .before .before .find .ensures) (c .before .before .before .i .given .1))
+
+sub-dc-of-2 : tie.Need-sub-dc-of-2
+sub-dc-of-2 c = search needs
+
+part-dc-of-start-2 : tie.Need-part-dc-of-start-2
+part-dc-of-start-2 c = search needs
+
+part-dc-of-end-2 : tie.Need-part-dc-of-end-2
+part-dc-of-end-2 c = omega (arith, found-room _ (c .before .before .before .before .before .before .before .before .pre) _ (c .before .before .before .before .before .find .ensures) (c .before .before .before .i .given .1))
+
+dc-of-requires-2 : tie.Need-dc-of-requires-2
+dc-of-requires-2 c κs = search needs
 
 enum-told : tie.Need-enum-told
 enum-told c = search needs
 
-returns-2 : tie.Need-returns-2
-returns-2 c = dc-created _ _ (c .before .before .before .before .before .before .before .before .if1 .left) (sym (c .before .before .before .before .before .before .before .find .ensures) ∙ c .before .before .before .before .before .i .given .1) (c .before .o .given .1)
-
 returns-3 : tie.Need-returns-3
-returns-3 c = dc-other _ _ (c .before .before .before .before .before .before .if1 .left) (sym (c .before .before .before .before .before .find .ensures) ∙ c .before .before .before .i .given .1) (c .match2 .keys2)
+returns-3 c = found-dc _ (c .before .before .before .before .before .before .before .before .before .before .pre) _ (c .before .before .before .before .before .before .before .find .ensures) (c .before .before .before .before .before .i .given .1) (c .before .before .before .before .before .before .before .before .if1 .left) (c .before .before .if2 .left) (c .dc-of2 .ensures)
 
 returns-4 : tie.Need-returns-4
 returns-4 c = dc-none _ _ (c .before .before .before .if1 .left) (sym (c .before .before .find .ensures) ∙ c .enum-told .given .1)
@@ -41,13 +81,26 @@ pub find-dc-spec : {M : Type 1} → statement M
 find-dc-spec =
     tie.close
     (tie.spec
+    sub-dc-of
+    part-dc-of-start
+    part-dc-of-end
+    dc-of-requires
     returns
     find-requires
     enum-known-i
-    mul-s
-    element-copy-out-s
-    enum-known-o
-    enum-told
+    mul-p
+    add-p
+    add-if2
+    mul-if2
+    shared-slice-read-if2
     returns-2
+    add-first
+    add-end
+    mul-dc-of
+    sub-dc-of-2
+    part-dc-of-start-2
+    part-dc-of-end-2
+    dc-of-requires-2
+    enum-told
     returns-3
     returns-4)

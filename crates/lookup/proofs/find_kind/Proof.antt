@@ -1,9 +1,9 @@
 -- `lookup::find_kind` meets its contract. Assumes nothing.
 use mathlib.Core.Path.{sym, _∙_}
 use native.Mathlib.Omega.{arith}
-use Rattle.gdi.proofs.Scan.{found-below}
-use Rattle.gdi.specs.Lookup.{kindOf}
 use borrow.Author.Needs.{needs}
+use Rattle.gdi.specs.Lookup.{kindOf}
+use Rattle.lookup.proofs.Found.{found-room, found-kind}
 use Rattle.lookup.proofs.find_kind.Statement.{statement}
 use Rattle.lookup.proofs.find_kind.Tie as tie
 
@@ -13,14 +13,14 @@ find-requires c κs = search needs
 enum-known-i : tie.Need-enum-known-i
 enum-known-i c = search needs
 
-element-copy-out-s : tie.Need-element-copy-out-s
-element-copy-out-s c = found-below (c .before .before .before .before .args .t1) (c .before .before .before .before .args .handle) (search needs) (sym (c .before .before .before .find .ensures) ∙ c .before .i .given .1)
+mul-kind-at : tie.Need-mul-kind-at
+mul-kind-at c = omega (arith, found-room _ (c .before .before .before .before .before .pre) _ (c .before .before .before .find .ensures) (c .before .i .given .1))
 
-mul-s : tie.Need-mul-s
-mul-s c = omega (arith, element-copy-out-s c)
+add-kind-at : tie.Need-add-kind-at
+add-kind-at c = omega (arith, found-room _ (c .before .before .before .before .before .pre) _ (c .before .before .before .find .ensures) (c .before .i .given .1))
 
 kind-at-requires : tie.Need-kind-at-requires
-kind-at-requires c κs = search needs
+kind-at-requires c κs = omega (arith, found-room _ (c .before .before .before .before .before .pre) _ (c .before .before .before .find .ensures) (c .before .i .given .1))
 
 enum-told : tie.Need-enum-told
 enum-told c = search needs
@@ -29,8 +29,7 @@ stock-kind-requires : tie.Need-stock-kind-requires
 stock-kind-requires c κs = search needs
 
 returns : tie.Need-returns
-unfolding kindOf
-returns c = rw (sym (c .before .before .before .before .before .find .ensures) ∙ c .before .before .before .i .given .1) (c .kind-at .ensures)
+returns c = found-kind _ (c .before .before .before .before .before .before .pre) _ (c .before .before .before .before .find .ensures) (c .before .before .i .given .1) (c .kind-at .ensures)
 
 returns-2 : tie.Need-returns-2
 unfolding kindOf
@@ -42,8 +41,8 @@ find-kind-spec =
     (tie.spec
     find-requires
     enum-known-i
-    mul-s
-    element-copy-out-s
+    mul-kind-at
+    add-kind-at
     kind-at-requires
     enum-told
     stock-kind-requires

@@ -1,28 +1,88 @@
--- `lookup::store_dc` meets its contract. Assumes nothing.
+-- `dirty::store_dc` meets its contract. Assumes nothing.
 use native.Mathlib.Omega.{arith}
+use Rattle.numbers.proofs.Seen.{record-length}
+use Rattle.lookup.proofs.Stores.{spot-room, stored-screen, stored-created}
 use borrow.Author.Needs.{needs}
-use borrow.Author.Tests.{ltb-true}
 use Rattle.lookup.proofs.store_dc.Statement.{statement}
 use Rattle.lookup.proofs.store_dc.Tie as tie
 
 enum-told : tie.Need-enum-told
 enum-told c = search needs
 
+sub-put-dc : tie.Need-sub-put-dc
+sub-put-dc c = search needs
+
+part-put-dc-start : tie.Need-part-put-dc-start
+part-put-dc-start c = search needs
+
+part-put-dc-end : tie.Need-part-put-dc-end
+part-put-dc-end c = omega (arith, record-length _ (c .before .before .before .pre .0))
+
+put-dc-requires : tie.Need-put-dc-requires
+put-dc-requires c κs = search needs
+
 enum-known-spot : tie.Need-enum-known-spot
 enum-known-spot c = search needs
 
-element-set-from-after : tie.Need-element-set-from-after
-element-set-from-after c = ltb-true _ _ (rw (c .before .spot .given .1) at (c .before .before .before .pre))
+mul-p : tie.Need-mul-p
+mul-p c = omega (arith, spot-room _ (c .before .before .before .before .pre .0) _ (c .before .before .before .before .pre .1) (c .before .spot .given .1))
 
-mul-t10 : tie.Need-mul-t10
-mul-t10 c = omega (arith, element-set-from-after c)
+add-p : tie.Need-add-p
+add-p c = omega (arith, spot-room _ (c .before .before .before .before .pre .0) _ (c .before .before .before .before .pre .1) (c .before .spot .given .1))
+
+add-first : tie.Need-add-first
+add-first c = omega (arith, spot-room _ (c .before .before .before .before .pre .0) _ (c .before .before .before .before .pre .1) (c .before .spot .given .1))
+
+add-end : tie.Need-add-end
+add-end c = omega (arith, spot-room _ (c .before .before .before .before .pre .0) _ (c .before .before .before .before .pre .1) (c .before .spot .given .1))
+
+mul-put-dc : tie.Need-mul-put-dc
+mul-put-dc c = omega (arith, spot-room _ (c .before .before .before .before .pre .0) _ (c .before .before .before .before .pre .1) (c .before .spot .given .1))
+
+sub-put-dc-2 : tie.Need-sub-put-dc-2
+sub-put-dc-2 c = search needs
+
+part-put-dc-start-2 : tie.Need-part-put-dc-start-2
+part-put-dc-start-2 c = search needs
+
+part-put-dc-end-2 : tie.Need-part-put-dc-end-2
+part-put-dc-end-2 c = omega (arith, spot-room _ (c .before .before .before .before .pre .0) _ (c .before .before .before .before .pre .1) (c .before .spot .given .1))
+
+put-dc-requires-2 : tie.Need-put-dc-requires-2
+put-dc-requires-2 c κs = search needs
+
+same-length : tie.Need-same-length
+same-length c = search needs
 
 returns : tie.Need-returns
-returns c = rw (c .enum-told .given .1)
+returns c = stored-screen _ (c .before .before .before .before .before .before .before .pre .0) _ (c .before .before .put-dc .last .0) (c .before .before .before .before .enum-told .given .1) (c .before .before .put-dc .kept .0) (c .before .before .put-dc .ensures)
+
+same-length-2 : tie.Need-same-length-2
+same-length-2 c = search needs
 
 returns-2 : tie.Need-returns-2
-returns-2 c = rw (c .before .spot .given .1)
+returns-2 c = stored-created _ (c .before .before .before .before .before .before .before .before .pre .0) _ (c .before .before .before .before .before .before .before .before .pre .1) (c .before .before .before .before .before .spot .given .1) (c .before .before .put-dc2 .last .0) (c .before .before .put-dc2 .kept .0) (c .before .before .put-dc2 .ensures)
 
 pub store-dc-spec : {M : Type 1} → statement M
 store-dc-spec =
-    tie.close (tie.spec enum-told enum-known-spot mul-t10 element-set-from-after returns returns-2)
+    tie.close
+    (tie.spec
+    enum-told
+    sub-put-dc
+    part-put-dc-start
+    part-put-dc-end
+    put-dc-requires
+    enum-known-spot
+    mul-p
+    add-p
+    add-first
+    add-end
+    mul-put-dc
+    sub-put-dc-2
+    part-put-dc-start-2
+    part-put-dc-end-2
+    put-dc-requires-2
+    same-length
+    returns
+    same-length-2
+    returns-2)

@@ -1,32 +1,56 @@
 -- `panel::fill` meets its contract. Assumes nothing.
+use mathlib.Core.Path.{refl}
 use native.Mathlib.Omega.{arith}
+use Rattle.numbers.proofs.Seen.{record-length}
+use Rattle.panel.proofs.Cases.{filled}
+use Rattle.panel.proofs.Sides.{area-seen, fits-seen, filled-seen}
 use borrow.Author.Needs.{needs}
-use Rattle.sound.proofs.Sound.{parts}
-use Rattle.panel.proofs.Cases.{panel-area, panel-fits, filled}
 use Rattle.panel.proofs.fill.Statement.{statement}
 use Rattle.panel.proofs.fill.Tie as tie
 
+slice-read-n : tie.Need-slice-read-n
+slice-read-n c = omega (arith, record-length _ (c .before .before .before .pre .is-record))
+
+slice-read-n-2 : tie.Need-slice-read-n-2
+slice-read-n-2 c = omega (arith, record-length _ (c .before .before .before .before .pre .is-record))
+
 mul-n : tie.Need-mul-n
-mul-n c = omega (arith, panel-area _ (c .before .before .pre .0))
+mul-n c = omega (arith, area-seen (c .before .before .before .before .args .l .now) (c .before .before .before .before .pre .ready .sound))
 
 cast-n : tie.Need-cast-n
-cast-n c = omega (arith, panel-area _ (c .before .before .pre .0))
+cast-n c = omega (arith, area-seen (c .before .before .before .before .args .l .now) (c .before .before .before .before .pre .ready .sound))
 
 fill-run-requires : tie.Need-fill-run-requires
-fill-run-requires c κs = panel-fits _ (c .before .before .before .pre .0) (c .before .before .before .pre .1)
+fill-run-requires c κs =
+    let s = c .before .before .before .before .before in
+    fits-seen (s .args .l .now) (s .pre .ready .sound) (s .args .panel .now) (s .pre .ready .panel)
 
 mark-dirty-requires : tie.Need-mark-dirty-requires
-mark-dirty-requires c κs = parts _ (c .before .before .before .before .before .before .pre .0) .count
+mark-dirty-requires c κs = (c .before .before .before .before .before .before .before .before .before .pre .is-record, refl)
 
 same-length : tie.Need-same-length
 same-length c = search needs
 
+same-length-2 : tie.Need-same-length-2
+same-length-2 c = search needs
+
 returns : tie.Need-returns
 returns c =
-    let s = c .before .before .before .before .before .before .before in
-    -- the colour's word is below 2 ^ 16
-    let small = s .good .1 .1 .0 .1 .1 .0 .1 in
-    filled _ _ _ (s .pre .0) (s .pre .1) small (c .mark-dirty .ensures) (c .before .before .before .fill-run .ensures)
+    let m = c .before .before in
+    let f = m .before .before .before .before in
+    let s = f .before .before .before .before .before .before in
+    filled (s .args .l .now) (s .args .panel .now) _ (s .pre .ready .sound) (s .pre .ready .panel) (s .good .1 .1 .0 .1 .1 .0 .1) (m .mark-dirty .ensures) (filled-seen (s .args .l .now) (s .args .panel .now) _ (f .fill-run .ensures))
 
 pub fill-spec : {M : Type 1} → statement M
-fill-spec = tie.close (tie.spec mul-n cast-n fill-run-requires mark-dirty-requires same-length returns)
+fill-spec =
+    tie.close
+    (tie.spec
+    slice-read-n
+    slice-read-n-2
+    mul-n
+    cast-n
+    fill-run-requires
+    mark-dirty-requires
+    same-length
+    same-length-2
+    returns)

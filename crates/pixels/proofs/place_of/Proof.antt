@@ -1,7 +1,7 @@
 -- `pixels::place_of` meets its contract. Assumes nothing.
-use borrow.Author.Needs.{needs}
-use Rattle.ready.proofs.Ready.{ready}
+use Rattle.ready.proofs.Ready.{lent}
 use Rattle.pixels.proofs.Parts.{refused, no-dc, no-surface, found}
+use borrow.Author.Needs.{needs}
 use Rattle.pixels.proofs.place_of.Statement.{statement}
 use Rattle.pixels.proofs.place_of.Tie as tie
 
@@ -12,7 +12,7 @@ returns : tie.Need-returns
 returns c = refused _ _ _ _ (c .before .common-refusal .ensures) (c .if1 .taken)
 
 target-of-requires : tie.Need-target-of-requires
-target-of-requires c κs = ready _ _ _ _ (c .before .common-refusal .ensures) (c .if1 .left) .sound
+target-of-requires c κs = let q = lent _ _ _ _ (c .before .common-refusal .ensures) (c .if1 .left) in (q .is-record, q .ready .sound)
 
 enum-told : tie.Need-enum-told
 enum-told c = search needs
@@ -20,27 +20,22 @@ enum-told c = search needs
 enum-told-2 : tie.Need-enum-told-2
 enum-told-2 c = search needs
 
-enum-known-s : tie.Need-enum-known-s
-enum-known-s c = search needs
-
-where-is-requires : tie.Need-where-is-requires
-where-is-requires c κs = let r = c .before .before .before .before in ready _ _ _ _ (r .before .common-refusal .ensures) (r .if1 .left) .sound
+enum-known-site : tie.Need-enum-known-site
+enum-known-site c = search needs
 
 returns-2 : tie.Need-returns-2
-returns-2 c =
-    let r = c .before .before .before in
-    no-dc _ _ _ _ (r .before .common-refusal .ensures) (r .if1 .left) (c .before .before .target-of .ensures) (c .enum-told .given .1)
+returns-2 c = no-dc _ _ _ _ (c .before .before .before .before .common-refusal .ensures) (c .before .before .before .if1 .left) (c .before .before .target-of .ensures) (c .enum-told .given .1)
 
 returns-3 : tie.Need-returns-3
-returns-3 c =
-    let r = c .before .before .before in
-    no-surface _ _ _ _ (r .before .common-refusal .ensures) (r .if1 .left) (c .before .before .target-of .ensures) (c .enum-told2 .given .1)
+returns-3 c = no-surface _ _ _ _ (c .before .before .before .before .common-refusal .ensures) (c .before .before .before .if1 .left) (c .before .before .target-of .ensures) (c .enum-told2 .given .1)
 
 returns-4 : tie.Need-returns-4
 returns-4 c =
-    let t = c .before .before .before .before in
-    let r = t .before in
-    found _ _ _ _ (r .before .common-refusal .ensures) (r .if1 .left) (t .target-of .ensures) (c .before .before .s .given .1) (c .where-is .ensures)
+    let s = c .before in
+    let t = s .before .before in
+    let i = t .before in
+    let a = i .before in
+    found _ _ _ _ (a .common-refusal .ensures) (i .if1 .left) (t .target-of .ensures) (s .site .given .1)
 
 pub place-of-spec : {M : Type 1} → statement M
 place-of-spec =
@@ -51,8 +46,7 @@ place-of-spec =
     target-of-requires
     enum-told
     enum-told-2
-    enum-known-s
-    where-is-requires
+    enum-known-site
     returns-2
     returns-3
     returns-4)

@@ -1,48 +1,54 @@
 -- `place::locate` meets its contract. Assumes nothing.
-use mathlib.Core.Path.{_≡_, _∙_}
+use mathlib.Core.Path.{_≡_}
 use Prim.Native.Nat.{_-_, _≤_}
 use native.Mathlib.Omega.{arith}
+use lib.ListN.{length}
 use borrow.Author.Needs.{needs}
-use Rattle.sound.specs.Sound.{startOf}
-use Rattle.sound.proofs.Bytes.{start-none, start-more}
-use Rattle.sound.proofs.Sound.{parts, fits-at, room}
-use Rattle.place.specs.Place.{live, locate}
-use Rattle.place.proofs.Places.{locatedFrom, miss, end, start, located}
+use Rattle.numbers.specs.Layout.{recordSize, countPlace}
+use Rattle.numbers.proofs.Seen.{record-length, record-count}
+use Rattle.place.proofs.Numbers.{Sought, sought-first, object-sound, located-seen, next-small, sought-next, end-seen}
 use Rattle.place.proofs.locate.Statement.{statement}
 use Rattle.place.proofs.locate.Tie as tie
 
 abbrev Inv-loop : tie.InvT-loop
-Inv-loop handle state n i₀ at₀ i at =
-    (i ≤ n) × ((n ≤ 256) × ((at ≡ startOf state i) × (locatedFrom state handle i at ≡ locate (live state) 2 handle)))
+Inv-loop l handle n i₀ start₀ i start =
+    (i ≤ n) × ((n ≤ 256) × ((length l ≡ recordSize) × Sought l handle i start))
 
 abbrev μ-loop : tie.MeasureT-loop
-μ-loop handle state n i₀ at₀ i at = n - i
+μ-loop l handle n i₀ start₀ i start = n - i
+
+shared-slice-read-n : tie.Need-shared-slice-read-n Inv-loop μ-loop
+shared-slice-read-n c = omega (arith, record-length _ (c .before .before .pre .0))
+
+cast-n : tie.Need-cast-n Inv-loop μ-loop
+cast-n c = omega (arith, c .shared-slice-known2 .given countPlace)
 
 loop-holds : tie.Need-loop-holds Inv-loop μ-loop
-loop-holds c = (search needs, (omega (arith, parts _ (c .pre) .count), (start-none (c .args .t1), start (c .args .t1) (c .args .handle))))
+loop-holds c = (search needs, (record-count _ (c .before .before .pre .0), (record-length _ (c .before .before .pre .0), sought-first (c .before .before .args .l .now) (c .before .before .args .handle))))
 
-mul-s : tie.Need-mul-s Inv-loop μ-loop
-mul-s c = omega arith
+mul-p : tie.Need-mul-p Inv-loop μ-loop
+mul-p c = omega arith
 
-element-copy-out-s : tie.Need-element-copy-out-s Inv-loop μ-loop
-element-copy-out-s c = omega arith
+add-p : tie.Need-add-p Inv-loop μ-loop
+add-p c = omega arith
+
+mul-if1 : tie.Need-mul-if1 Inv-loop μ-loop
+mul-if1 c = omega arith
+
+shared-slice-read-if1 : tie.Need-shared-slice-read-if1 Inv-loop μ-loop
+shared-slice-read-if1 c = omega arith
 
 frame-requires : tie.Need-frame-requires Inv-loop μ-loop
-frame-requires c κs = search needs
+frame-requires c κs = omega arith
 
 returns : tie.Need-returns Inv-loop μ-loop
-returns c =
-    let l = c .before .before .before .before .before in
-    located _ (l .before .pre) _ _ _ (c .before .before .before .before .loop-test .taken) (c .before .if1 .taken) (l .loop .inv .1 .1 .0)
-    (l .loop .inv .1 .1 .1) (c .frame .ensures)
+returns c = let p = c .before .before .before .before .before .before .before in located-seen (p .args .l .now) (p .pre .0) (p .pre .1) (c .before .before .before .before .loop .i) (c .before .before .before .loop-test .taken) (c .before .before .before .before .loop .inv .1 .1 .1) (c .before .if1 .taken) (c .frame .ensures)
 
 bytes-of-requires : tie.Need-bytes-of-requires Inv-loop μ-loop
-bytes-of-requires c κs = fits-at (parts _ (c .before .before .before .before .before .pre)) _ (c .before .before .before .loop-test .taken)
+bytes-of-requires c κs = (omega arith, object-sound (c .before .before .before .before .before .before .args .l .now) (c .before .before .before .before .before .before .pre .0) (c .before .before .before .before .before .before .pre .1) (c .before .before .before .loop .i) (c .before .before .loop-test .taken))
 
-add-at : tie.Need-add-at Inv-loop μ-loop
-add-at c =
-    let q = parts _ (c .before .before .before .before .before .before .pre) in
-    omega (arith, q .store-len, q .store, c .bytes-of .ensures, room q _ (c .before .before .before .before .loop-test .taken))
+add-start : tie.Need-add-start Inv-loop μ-loop
+add-start c = omega (arith, next-small (c .before .before .before .before .before .before .before .args .l .now) (c .before .before .before .before .before .before .before .pre .0) (c .before .before .before .before .before .before .before .pre .1) (c .before .before .before .before .loop .i) (c .before .before .before .loop-test .taken) (c .before .before .before .before .loop .inv .1 .1 .1) (c .bytes-of .ensures))
 
 add-i : tie.Need-add-i Inv-loop μ-loop
 add-i c = omega arith
@@ -51,24 +57,13 @@ loop-less : tie.Need-loop-less Inv-loop μ-loop
 loop-less c = omega arith
 
 loop-again : tie.Need-loop-again Inv-loop μ-loop
-loop-again c =
-    let l = c .before .before .before .before .before in
-    let b = l .before .args .t1 in (
-      search needs,
-      (
-        search needs,
-        (
-          start-more b (l .loop .i) (l .loop .inv .1 .1 .0) (c .bytes-of .ensures),
-          miss b _ _ _ (c .before .before .before .before .loop-test .taken) (c .before .if1 .left) (c .bytes-of .ensures) ∙ l .loop .inv .1 .1 .1,
-        ),
-      ),
-    )
+loop-again c = let p = c .before .before .before .before .before .before .before in (search needs, (search needs, (search needs, sought-next (p .args .l .now) (p .pre .0) (p .pre .1) (c .before .before .before .before .loop .i) (c .before .before .before .loop-test .taken) (c .before .before .before .before .loop .inv .1 .1 .1) (c .bytes-of .ensures) (c .before .if1 .left))))
+
+untabled-requires : tie.Need-untabled-requires Inv-loop μ-loop
+untabled-requires c κs = search needs
 
 returns-2 : tie.Need-returns-2 Inv-loop μ-loop
-returns-2 c =
-    let l = c .before in
-    let a = l .before .args in
-    record { same = end (a .t1) (a .handle) (l .loop .i) (l .loop .at) (c .loop-test .left) ∙ l .loop .inv .1 .1 .1; within = tt }
+returns-2 c = end-seen (c .before .before .before .before .before .args .l .now) (c .before .loop-test .left) (c .before .before .loop .inv .1 .1 .1) (c .untabled .ensures)
 
 pub locate-spec : {M : Type 1} → statement M
 locate-spec =
@@ -76,14 +71,19 @@ locate-spec =
     (tie.spec
     Inv-loop
     μ-loop
+    shared-slice-read-n
+    cast-n
     loop-holds
-    mul-s
-    element-copy-out-s
+    mul-p
+    add-p
+    mul-if1
+    shared-slice-read-if1
     frame-requires
     returns
     bytes-of-requires
-    add-at
+    add-start
     add-i
     loop-less
     loop-again
+    untabled-requires
     returns-2)

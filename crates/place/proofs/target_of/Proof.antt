@@ -1,18 +1,20 @@
 -- `place::target_of` meets its contract. Assumes nothing.
-use borrow.Author.Needs.{needs}
-use Rattle.sound.proofs.Sound.{parts}
 use Rattle.place.proofs.Targets.{no-dc, on-screen, unset, gone, on-bitmap}
+use borrow.Author.Needs.{needs}
 use Rattle.place.proofs.target_of.Statement.{statement}
 use Rattle.place.proofs.target_of.Tie as tie
 
 find-dc-requires : tie.Need-find-dc-requires
-find-dc-requires c κs = parts _ (c .pre) .count
+find-dc-requires c κs = search needs
 
 enum-known-p : tie.Need-enum-known-p
 enum-known-p c = search needs
 
 enum-told : tie.Need-enum-told
 enum-told c = search needs
+
+where-is-requires : tie.Need-where-is-requires
+where-is-requires c κs = search needs
 
 enum-told-2 : tie.Need-enum-told-2
 enum-told-2 c = search needs
@@ -23,8 +25,8 @@ enum-told-3 c = search needs
 enum-known-k : tie.Need-enum-known-k
 enum-known-k c = search needs
 
-where-is-requires : tie.Need-where-is-requires
-where-is-requires c κs = search needs
+where-is-requires-2 : tie.Need-where-is-requires-2
+where-is-requires-2 c κs = search needs
 
 enum-told-4 : tie.Need-enum-told-4
 enum-told-4 c = search needs
@@ -36,28 +38,36 @@ enum-told-6 : tie.Need-enum-told-6
 enum-told-6 c = search needs
 
 returns : tie.Need-returns
-returns c = let f = c .before .before .before in on-screen _ _ (f .before .before .find-dc .ensures) (f .p .given .1) (c .enum-told .given .1)
+returns c =
+    let e = c .before in
+    let p = e .before .before .before in
+    let f = p .before .before in
+    on-screen _ _ (f .find-dc .ensures) (p .p .given .1) (e .enum-told .given .1) (c .where-is .ensures)
 
 returns-2 : tie.Need-returns-2
 returns-2 c =
-    let f = c .before .before .before .before .before in
-    unset _ _ (f .before .before .find-dc .ensures) (f .p .given .1) (c .before .before .enum-told2 .given .1) (c .enum-told3 .given .1)
+    let e = c .before .before in
+    let p = e .before .before .before in
+    let f = p .before .before in
+    unset _ _ (f .find-dc .ensures) (p .p .given .1) (e .enum-told2 .given .1) (c .enum-told3 .given .1)
 
 returns-3 : tie.Need-returns-3
 returns-3 c =
     let w = c .before .before in
-    let s = w .before .before .before .before in
-    let f = s .before .before .before in
-    gone _ _ (f .before .before .find-dc .ensures) (f .p .given .1) (s .enum-told2 .given .1) (w .before .before .k .given .1)
-    (w .where-is .ensures) (c .enum-told4 .given .1)
+    let k = w .before .before in
+    let e = k .before .before in
+    let p = e .before .before .before in
+    let f = p .before .before in
+    gone _ _ (f .find-dc .ensures) (p .p .given .1) (e .enum-told2 .given .1) (k .k .given .1) (w .where-is2 .ensures) (c .enum-told4 .given .1)
 
 returns-4 : tie.Need-returns-4
 returns-4 c =
     let w = c .before .before in
-    let s = w .before .before .before .before in
-    let f = s .before .before .before in
-    on-bitmap _ _ (f .before .before .find-dc .ensures) (f .p .given .1) (s .enum-told2 .given .1) (w .before .before .k .given .1)
-    (w .where-is .ensures) (c .enum-told5 .given .1)
+    let k = w .before .before in
+    let e = k .before .before in
+    let p = e .before .before .before in
+    let f = p .before .before in
+    on-bitmap _ _ (f .find-dc .ensures) (p .p .given .1) (e .enum-told2 .given .1) (k .k .given .1) (w .where-is2 .ensures) (c .enum-told5 .given .1)
 
 returns-5 : tie.Need-returns-5
 returns-5 c = no-dc _ _ (c .before .before .find-dc .ensures) (c .enum-told6 .given .1)
@@ -69,10 +79,11 @@ target-of-spec =
     find-dc-requires
     enum-known-p
     enum-told
+    where-is-requires
     enum-told-2
     enum-told-3
     enum-known-k
-    where-is-requires
+    where-is-requires-2
     enum-told-4
     enum-told-5
     enum-told-6

@@ -1,15 +1,17 @@
--- `records::try_all` is safe and ends. The invariant: there are no more records than bytes. The measure is what is left of the stream. Assumes nothing.
+-- `records::try_all` is safe and ends. The invariant: there are no more records than bytes, and the numbers stay as many. The measure is what is left of the stream. Assumes nothing.
+use mathlib.Core.Path.{_≡_}
 use Prim.Native.Nat.{_-_, _≤_}
 use lib.ListN.{length}
 use borrow.Author.Needs.{needs}
+use Rattle.numbers.specs.Layout.{recordSize}
 use Rattle.records.proofs.try_all.Statement.{statement}
 use Rattle.records.proofs.try_all.Tie as tie
 
 abbrev Inv-loop : tie.InvT-loop
-Inv-loop s at₀ i₀ t5 at i = i ≤ at
+Inv-loop s l₀ at₀ i₀ t6 l at i = (i ≤ at) × (length l ≡ recordSize)
 
 abbrev μ-loop : tie.MeasureT-loop
-μ-loop s at₀ i₀ t5 at i = length s - at
+μ-loop s l₀ at₀ i₀ t6 l at i = length s - at
 
 loop-holds : tie.Need-loop-holds Inv-loop μ-loop
 loop-holds c = search needs
@@ -29,6 +31,9 @@ text-requires c κs = search needs
 print-requires : tie.Need-print-requires Inv-loop μ-loop
 print-requires c κs = search needs
 
+same-length : tie.Need-same-length Inv-loop μ-loop
+same-length c = search needs
+
 returns : tie.Need-returns Inv-loop μ-loop
 returns c = search needs
 
@@ -47,6 +52,9 @@ loop-less c = search needs
 loop-again : tie.Need-loop-again Inv-loop μ-loop
 loop-again c = search needs
 
+same-length-2 : tie.Need-same-length-2 Inv-loop μ-loop
+same-length-2 c = search needs
+
 returns-2 : tie.Need-returns-2 Inv-loop μ-loop
 returns-2 c = search needs
 
@@ -62,10 +70,12 @@ try-all-spec =
     slice-aggregate-text
     text-requires
     print-requires
+    same-length
     returns
     on-memories-requires
     print-told-requires
     add-i
     loop-less
     loop-again
+    same-length-2
     returns-2)

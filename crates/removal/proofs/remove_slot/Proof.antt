@@ -1,67 +1,96 @@
--- `removal::remove_slot` meets its contract. The invariant: the slots behind i are moved down, up to j. Assumes nothing.
-use mathlib.Core.Path.{_≡_, _∙_, ap}
-use Prim.Native.Nat.{_-_, _≤_}
+-- `removal::remove_slot` meets its contract. The invariant: the numbers from slot i on, up to k, came from one slot behind
+-- them. Assumes nothing.
+use mathlib.Core.Path.{_≡_, refl}
+use Prim.Native.Nat.{_+_, _-_, _≤_}
 use native.Mathlib.Omega.{arith}
+use lib.ListN.{length, drop, length-set}
+use lib.Seq.{paste}
 use borrow.Author.Needs.{needs}
-use Rattle.sound.proofs.Sound.{parts}
-use Rattle.removal.proofs.Slots.{movedTo, slots-none, slots-more, slots-done}
+use Rattle.numbers.specs.Layout.{slotSize, recordSize, countPlace, slotPlace}
+use Rattle.numbers.specs.Block.{at}
+use Rattle.numbers.proofs.Seen.{record-length, record-count}
+use Rattle.memory.proofs.Gap.{moved-none, moved-more}
+use Rattle.removal.proofs.Without.{last-room, moved-down}
 use Rattle.removal.proofs.remove_slot.Statement.{statement}
 use Rattle.removal.proofs.remove_slot.Tie as tie
 
 abbrev Inv-loop : tie.InvT-loop
-Inv-loop i after₀ last j₀ after j = (after ≡ movedTo after₀ i j) × ((i ≤ j) × ((j ≤ last) × (last ≤ 255)))
+Inv-loop l₀ i last end k₀ l k =
+    (l ≡ paste l₀ (slotPlace i) (drop (slotPlace i + slotSize) l₀) (k - (slotPlace i)))
+    × ((length l ≡ length l₀) × ((end + slotSize ≤ length l₀) × ((length l₀ ≡ recordSize) × ((slotPlace i ≤ k) × (k ≤ end)))))
 
 abbrev μ-loop : tie.MeasureT-loop
-μ-loop i after₀ last j₀ after j = last - j
+μ-loop l₀ i last end k₀ l k = end - k
+
+slice-read-last : tie.Need-slice-read-last Inv-loop μ-loop
+slice-read-last c = omega (arith, record-length _ (c .before .pre .0))
 
 sub-last : tie.Need-sub-last Inv-loop μ-loop
 sub-last c = omega arith
 
+cast-end : tie.Need-cast-end Inv-loop μ-loop
+cast-end c = omega (arith, record-count _ (c .before .pre .0))
+
+mul-end : tie.Need-mul-end Inv-loop μ-loop
+mul-end c = omega (arith, record-count _ (c .before .pre .0))
+
+add-end : tie.Need-add-end Inv-loop μ-loop
+add-end c = omega (arith, record-count _ (c .before .pre .0))
+
+mul-k : tie.Need-mul-k Inv-loop μ-loop
+mul-k c = omega (arith, record-count _ (c .before .pre .0))
+
+add-k : tie.Need-add-k Inv-loop μ-loop
+add-k c = omega (arith, record-count _ (c .before .pre .0))
+
 loop-holds : tie.Need-loop-holds Inv-loop μ-loop
-loop-holds c = (slots-none _ (c .before .args .i), (omega arith, (omega arith, omega (arith, parts _ (c .before .pre .0) .count))))
+loop-holds c =
+    let e = c .before in (
+      moved-none (e .args .l .now) (slotPlace (e .args .i)) slotSize,
+      (refl, (last-room (e .args .l .now) (e .pre .0) (e .args .i) (e .pre .1), (record-length _ (e .pre .0), (omega arith, omega arith)))),
+    )
 
-add-s : tie.Need-add-s Inv-loop μ-loop
-add-s c = omega arith
+add-l : tie.Need-add-l Inv-loop μ-loop
+add-l c = omega arith
 
-mul-s : tie.Need-mul-s Inv-loop μ-loop
-mul-s c = omega arith
+mul-l : tie.Need-mul-l Inv-loop μ-loop
+mul-l c = omega arith
 
-element-copy-out-s : tie.Need-element-copy-out-s Inv-loop μ-loop
-element-copy-out-s c = omega arith
+slice-read-l : tie.Need-slice-read-l Inv-loop μ-loop
+slice-read-l c = omega arith
 
-mul-s-2 : tie.Need-mul-s-2 Inv-loop μ-loop
-mul-s-2 c = omega arith
+mul-l-2 : tie.Need-mul-l-2 Inv-loop μ-loop
+mul-l-2 c = omega arith
 
-element-set-from-s : tie.Need-element-set-from-s Inv-loop μ-loop
-element-set-from-s c = omega arith
+slice-write-l : tie.Need-slice-write-l Inv-loop μ-loop
+slice-write-l c = omega arith
 
-add-j : tie.Need-add-j Inv-loop μ-loop
-add-j c = omega arith
+add-k-2 : tie.Need-add-k-2 Inv-loop μ-loop
+add-k-2 c = omega arith
 
 loop-less : tie.Need-loop-less Inv-loop μ-loop
 loop-less c = omega arith
 
 loop-again : tie.Need-loop-again Inv-loop μ-loop
 loop-again c =
-    let i = c .before .before .loop .inv in
-    (slots-more _ _ (c .before .before .before .before .pre .0) _ _ (i .1 .0) (i .0) (omega arith), (omega arith, (omega arith, omega arith)))
+    let l = c .before .before .loop in
+    let a = c .before .before .before .before .args in (
+      moved-more (a .l .now) (slotPlace (a .i)) slotSize 0 (l .l) (l .k) (omega arith) (omega arith) (l .inv .0),
+      (simp length-set (l .inv .1 .0), (l .inv .1 .1 .0, (l .inv .1 .1 .1 .0, (omega arith, omega arith)))),
+    )
 
-vacant-slot-requires : tie.Need-vacant-slot-requires Inv-loop μ-loop
-vacant-slot-requires c κs = search needs
+slice-write-l-2 : tie.Need-slice-write-l-2 Inv-loop μ-loop
+slice-write-l-2 c = omega arith
 
-mul-v : tie.Need-mul-v Inv-loop μ-loop
-mul-v c = omega arith
-
-element-set-from-v : tie.Need-element-set-from-v Inv-loop μ-loop
-element-set-from-v c = omega arith
+same-length : tie.Need-same-length Inv-loop μ-loop
+same-length c = search needs
 
 returns : tie.Need-returns Inv-loop μ-loop
 returns c =
-    let l = c .before .before .loop in
-    let a = c .before .before .before .before .args in
-    let e : l .j ≡ a .state .count - 1 = omega arith in
-    slots-done (a .state) (a .i) (c .before .before .before .before .pre .0) (l .after) (a .state .count - 1) (omega arith)
-    (l .inv .0 ∙ ap (movedTo (a .state) (a .i)) e) (omega arith) (c .vacant-slot .ensures)
+    let l = c .before .loop in
+    let e = c .before .before .before in
+    let f : l .k ≡ slotPlace (at (e .args .l .now) countPlace - 1) = omega arith in
+    moved-down (e .args .l .now) (e .pre .0) (e .args .i) (e .pre .1) (l .l) (rw f at (l .inv .0))
 
 pub remove-slot-spec : {M : Type 1} → statement M
 remove-slot-spec =
@@ -69,17 +98,22 @@ remove-slot-spec =
     (tie.spec
     Inv-loop
     μ-loop
+    slice-read-last
     sub-last
+    cast-end
+    mul-end
+    add-end
+    mul-k
+    add-k
     loop-holds
-    add-s
-    mul-s
-    element-copy-out-s
-    mul-s-2
-    element-set-from-s
-    add-j
+    add-l
+    mul-l
+    slice-read-l
+    mul-l-2
+    slice-write-l
+    add-k-2
     loop-less
     loop-again
-    vacant-slot-requires
-    mul-v
-    element-set-from-v
+    slice-write-l-2
+    same-length
     returns)

@@ -1,16 +1,21 @@
--- `replay::lend` is safe and ends: the memories are as long as they are declared. Assumes nothing.
+-- `replay::lend` is safe and ends: the numbers and the memories are as long as they are declared. Assumes nothing.
+use mathlib.Core.Path.{sym}
 use Rattle.laws.proofs.Arrays.{zeros, served}
+use Rattle.numbers.specs.Layout.{recordSize}
 use Rattle.replay.proofs.lend.Statement.{statement}
 use Rattle.replay.proofs.lend.Tie as tie
 
 slice-aggregate-on-parts : tie.Need-slice-aggregate-on-parts
-slice-aggregate-on-parts c = zeros 1048576
+slice-aggregate-on-parts c = zeros recordSize
 
 slice-aggregate-on-parts-2 : tie.Need-slice-aggregate-on-parts-2
-slice-aggregate-on-parts-2 c = zeros 4194304
+slice-aggregate-on-parts-2 c = zeros 1048576
+
+slice-aggregate-on-parts-3 : tie.Need-slice-aggregate-on-parts-3
+slice-aggregate-on-parts-3 c = zeros 4194304
 
 on-parts-requires : tie.Need-on-parts-requires
-on-parts-requires c κs = let asked = c .before .before .before .pre in (served 1048576 (asked .0), served 4194304 (asked .1))
+on-parts-requires c κs = let asked = c .before .before .before .before .pre in (sym (zeros recordSize), (served 1048576 (asked .0), served 4194304 (asked .1)))
 
 returns : tie.Need-returns
 returns c = tt
@@ -21,5 +26,6 @@ lend-spec =
     (tie.spec
     slice-aggregate-on-parts
     slice-aggregate-on-parts-2
+    slice-aggregate-on-parts-3
     on-parts-requires
     returns)

@@ -6,6 +6,9 @@ use Rattle.select.proofs.select_in.Tie as tie
 enum-told : tie.Need-enum-told
 enum-told c = search needs
 
+with-bitmap-requires : tie.Need-with-bitmap-requires
+with-bitmap-requires c κs = search needs
+
 enum-known-kind : tie.Need-enum-known-kind
 enum-known-kind c = search needs
 
@@ -19,7 +22,7 @@ enum-told-3 : tie.Need-enum-told-3
 enum-told-3 c = search needs
 
 returns : tie.Need-returns
-returns c = rw (c .before .before .before .before .enum-told .given .1)
+returns c = rw (c .before .enum-told .given .1) (c .with-bitmap .ensures)
 
 returns-2 : tie.Need-returns-2
 returns-2 c = rw (c .before .kind .given .1)
@@ -31,13 +34,14 @@ returns-4 : tie.Need-returns-4
 returns-4 c = rw (c .enum-told2 .given .1)
 
 returns-5 : tie.Need-returns-5
-returns-5 c = search needs
+returns-5 c = rw (c .enum-told3 .given .1)
 
 pub select-in-spec : {M : Type 1} → statement M
 select-in-spec =
     tie.close
     (tie.spec
     enum-told
+    with-bitmap-requires
     enum-known-kind
     enum-known-kind-2
     enum-told-2

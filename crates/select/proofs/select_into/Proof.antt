@@ -1,8 +1,9 @@
 -- `select::select_into` meets its contract. Assumes nothing.
-use mathlib.Core.Path.{sym, _∙_}
-use borrow.Author.Needs.{needs}
-use Rattle.gdi.proofs.Scan.{dc-within}
+use mathlib.Core.Path.{refl, sym, _∙_}
+use Rattle.lookup.proofs.Spotted.{spotted}
+use Rattle.plan.proofs.Followed.{acceptance-told, acceptance-same}
 use Rattle.select.proofs.Select.{select-other, select-no-dc, select-tied}
+use borrow.Author.Needs.{needs}
 use Rattle.select.proofs.select_into.Statement.{statement}
 use Rattle.select.proofs.select_into.Tie as tie
 
@@ -12,8 +13,11 @@ find-kind-requires c κs = search needs
 enum-told : tie.Need-enum-told
 enum-told c = search needs
 
+same-length : tie.Need-same-length
+same-length c = search needs
+
 returns : tie.Need-returns
-returns c = select-other _ _ _ (c .before .before .find-kind .ensures) (c .enum-told .given .1)
+returns c = λ ms. acceptance-same (c .before .before .before .before .before .pre .is-record) refl (select-other _ _ _ (c .before .before .find-kind .ensures) (c .enum-told .given .1))
 
 find-dc-requires : tie.Need-find-dc-requires
 find-dc-requires c κs = search needs
@@ -28,16 +32,39 @@ select-in-requires : tie.Need-select-in-requires
 select-in-requires c κs = search needs
 
 store-dc-requires : tie.Need-store-dc-requires
-store-dc-requires c κs = dc-within _ _ (sym (c .before .before .before .before .before .find-dc .ensures) ∙ c .before .before .before .p .given .1) (search needs)
+store-dc-requires c κs =
+    let p = c .before .before .before .before in
+    let f = p .before .before in
+    let s = f .before .before .before .before .before .before in
+    (s .pre .is-record, spotted (f .find-dc .ensures) (p .p .given .1))
 
 enum-told-2 : tie.Need-enum-told-2
 enum-told-2 c = search needs
 
+same-length-2 : tie.Need-same-length-2
+same-length-2 c = search needs
+
 returns-2 : tie.Need-returns-2
-returns-2 c = select-tied _ _ _ (c .before .before .before .before .before .before .before .before .find-kind .ensures) (c .before .before .before .before .before .before .before .match .keys2) (sym (c .before .before .before .before .before .before .find-dc .ensures) ∙ c .before .before .before .before .p .given .1) (c .before .before .selected .ensures) (c .before .select-in .ensures) (c .store-dc .ensures)
+returns-2 c =
+    let s = c .before .before in
+    let a = s .before .before in
+    let b = a .before in
+    let p = b .before .before in
+    let f = p .before .before in
+    let m = f .before .before in
+    let d = m .before in
+    λ ms. acceptance-told refl (select-tied _ _ _ (d .find-kind .ensures) (m .match .keys2) (sym (f .find-dc .ensures) ∙ p .p .given .1) (b .selected .ensures) (a .select-in .ensures)) (s .store-dc .ensures)
+
+same-length-3 : tie.Need-same-length-3
+same-length-3 c = search needs
 
 returns-3 : tie.Need-returns-3
-returns-3 c = select-no-dc _ _ _ (c .before .before .before .before .find-kind .ensures) (c .before .before .before .match .keys2) (sym (c .before .before .find-dc .ensures) ∙ c .enum-told2 .given .1)
+returns-3 c =
+    let f = c .before .before in
+    let m = f .before .before in
+    let a = m .before in
+    let s = a .before .before .before in
+    λ ms. acceptance-same (s .pre .is-record) refl (select-no-dc _ _ _ (a .find-kind .ensures) (m .match .keys2) (sym (f .find-dc .ensures) ∙ c .enum-told2 .given .1))
 
 pub select-into-spec : {M : Type 1} → statement M
 select-into-spec =
@@ -45,6 +72,7 @@ select-into-spec =
     (tie.spec
     find-kind-requires
     enum-told
+    same-length
     returns
     find-dc-requires
     enum-known-p
@@ -52,5 +80,7 @@ select-into-spec =
     select-in-requires
     store-dc-requires
     enum-told-2
+    same-length-2
     returns-2
+    same-length-3
     returns-3)

@@ -1,9 +1,10 @@
 -- `settings::set_bk_mode` meets its contract. Assumes nothing.
-use mathlib.Core.Path.{sym, ap, _∙_}
-use borrow.Author.Needs.{needs}
-use Rattle.gdi.proofs.Scan.{dc-within}
-use Rattle.plan.specs.declared.Answer.the-variants.{OldMode}
+use mathlib.Core.Path.{refl, sym, _∙_, ap}
+use Rattle.lookup.proofs.Spotted.{spotted}
+use Rattle.plan.specs.Answer.{flagged}
+use Rattle.plan.proofs.Followed.{refusal, acceptance-told}
 use Rattle.settings.proofs.Settings.{set-in-dc, set-no-dc}
+use borrow.Author.Needs.{needs}
 use Rattle.settings.proofs.set_bk_mode.Statement.{statement}
 use Rattle.settings.proofs.set_bk_mode.Tie as tie
 
@@ -17,16 +18,31 @@ with-bk-mode-requires : tie.Need-with-bk-mode-requires
 with-bk-mode-requires c κs = search needs
 
 store-dc-requires : tie.Need-store-dc-requires
-store-dc-requires c κs = dc-within _ _ (sym (c .before .before .before .before .before .find-dc .ensures) ∙ c .before .before .before .p .given .1) (search needs)
+store-dc-requires c κs =
+    let p = c .before .before .before .before in
+    let f = p .before .before in
+    let s = f .before .before .before in
+    (s .pre .is-record, spotted (f .find-dc .ensures) (p .p .given .1))
 
 enum-told : tie.Need-enum-told
 enum-told c = search needs
 
+same-length : tie.Need-same-length
+same-length c = search needs
+
 returns : tie.Need-returns
-returns c = set-in-dc _ _ _ _ (sym (c .before .before .before .before .before .before .find-dc .ensures) ∙ c .before .before .before .before .p .given .1) (ap OldMode (c .before .before .with-bk-mode .ensures .0), c .before .before .with-bk-mode .ensures .1) (c .store-dc .ensures)
+returns c =
+    let s = c .before .before in
+    let w = s .before .before .before in
+    let p = w .before .before in
+    let f = p .before .before in
+    λ ms. acceptance-told refl (set-in-dc _ _ _ _ (sym (f .find-dc .ensures) ∙ p .p .given .1) (ap flagged (w .with-bk-mode .ensures .0)) (w .with-bk-mode .ensures .1)) (s .store-dc .ensures)
+
+same-length-2 : tie.Need-same-length-2
+same-length-2 c = search needs
 
 returns-2 : tie.Need-returns-2
-returns-2 c = set-no-dc _ _ _ _ (sym (c .before .before .find-dc .ensures) ∙ c .enum-told .given .1)
+returns-2 c = λ ms. refusal (c .before .before .before .before .before .pre .is-record) (set-no-dc _ _ _ _ (sym (c .before .before .find-dc .ensures) ∙ c .enum-told .given .1))
 
 pub set-bk-mode-spec : {M : Type 1} → statement M
 set-bk-mode-spec =
@@ -37,5 +53,7 @@ set-bk-mode-spec =
     with-bk-mode-requires
     store-dc-requires
     enum-told
+    same-length
     returns
+    same-length-2
     returns-2)

@@ -1,67 +1,73 @@
 -- `sound::bytes_of` meets its contract. Assumes nothing.
+use Prim.Native.Nat.{_+_}
 use native.Mathlib.Omega.{arith}
 use borrow.Author.Needs.{needs}
-use Rattle.sound.proofs.Bytes.{sides}
+use Rattle.sound.proofs.Objects.{bytes-bitmap, bytes-other, pixels-few}
 use Rattle.sound.proofs.bytes_of.Statement.{statement}
 use Rattle.sound.proofs.bytes_of.Tie as tie
+use Rattle.numbers.specs.Layout.{objectPlace, bitmapHeightPlace}
 
-enum-told : tie.Need-enum-told
-enum-told c = search needs
+add-if1 : tie.Need-add-if1
+add-if1 c = search needs
 
-enum-known-object : tie.Need-enum-known-object
-enum-known-object c = search needs
+mul-if1 : tie.Need-mul-if1
+mul-if1 c = search needs
 
-cast-result : tie.Need-cast-result
-cast-result c = search needs
-
-cast-result-2 : tie.Need-cast-result-2
-cast-result-2 c = search needs
-
-mul-result : tie.Need-mul-result
-mul-result c = omega (arith, sides (c .before .object .given .0 .0) (rw (c .before .object .given .1) at (c .before .before .before .pre)))
-
-mul-result-2 : tie.Need-mul-result-2
-mul-result-2 c = omega (arith, sides (c .before .object .given .0 .0) (rw (c .before .object .given .1) at (c .before .before .before .pre)))
-
-enum-told-2 : tie.Need-enum-told-2
-enum-told-2 c = search needs
-
-enum-told-3 : tie.Need-enum-told-3
-enum-told-3 c = search needs
-
-enum-told-4 : tie.Need-enum-told-4
-enum-told-4 c = search needs
+shared-slice-read-if1 : tie.Need-shared-slice-read-if1
+shared-slice-read-if1 c = search needs
 
 returns : tie.Need-returns
-returns c = search needs
+returns c = bytes-other (c .before .before .args .l .now) (c .before .before .args .p) (c .if1 .taken)
+
+add-w : tie.Need-add-w
+add-w c = search needs
+
+mul-w : tie.Need-mul-w
+mul-w c = search needs
+
+shared-slice-read-w : tie.Need-shared-slice-read-w
+shared-slice-read-w c = search needs
+
+cast-w : tie.Need-cast-w
+cast-w c = omega (arith, c .shared-slice-known2 .given (c .before .before .before .args .p + objectPlace))
+
+add-h : tie.Need-add-h
+add-h c = search needs
+
+mul-h : tie.Need-mul-h
+mul-h c = search needs
+
+shared-slice-read-h : tie.Need-shared-slice-read-h
+shared-slice-read-h c = search needs
+
+cast-h : tie.Need-cast-h
+cast-h c = omega (arith, c .shared-slice-known3 .given (c .before .before .before .before .args .p + bitmapHeightPlace))
+
+mul-result : tie.Need-mul-result
+mul-result c = omega (arith, pixels-few (c .before .before .before .before .args .l .now) (c .before .before .before .before .args .p) (c .before .before .if1 .left) (c .before .before .before .before .pre .1))
+
+mul-result-2 : tie.Need-mul-result-2
+mul-result-2 c = omega (arith, pixels-few (c .before .before .before .before .args .l .now) (c .before .before .before .before .args .p) (c .before .before .if1 .left) (c .before .before .before .before .pre .1))
 
 returns-2 : tie.Need-returns-2
-returns-2 c = rw (c .before .object .given .1)
-
-returns-3 : tie.Need-returns-3
-returns-3 c = search needs
-
-returns-4 : tie.Need-returns-4
-returns-4 c = search needs
-
-returns-5 : tie.Need-returns-5
-returns-5 c = search needs
+returns-2 c = bytes-bitmap (c .before .before .before .before .args .l .now) (c .before .before .before .before .args .p) (c .before .before .if1 .left)
 
 pub bytes-of-spec : {M : Type 1} → statement M
 bytes-of-spec =
     tie.close
     (tie.spec
-    enum-told
-    enum-known-object
-    cast-result
-    cast-result-2
+    add-if1
+    mul-if1
+    shared-slice-read-if1
+    returns
+    add-w
+    mul-w
+    shared-slice-read-w
+    cast-w
+    add-h
+    mul-h
+    shared-slice-read-h
+    cast-h
     mul-result
     mul-result-2
-    enum-told-2
-    enum-told-3
-    enum-told-4
-    returns
-    returns-2
-    returns-3
-    returns-4
-    returns-5)
+    returns-2)

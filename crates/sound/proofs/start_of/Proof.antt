@@ -1,50 +1,49 @@
 -- `sound::start_of` meets its contract. Assumes nothing.
-use mathlib.Core.Path.{_≡_}
-use Prim.Native.Nat.{_+_, _-_, _*_, _≤_}
+use mathlib.Core.Path.{_≡_, _∙_, ap}
+use Prim.Native.Nat.{_+_, _*_, _≤_, _-_}
 use native.Mathlib.Omega.{arith}
 use borrow.Author.Needs.{needs}
+use Rattle.numbers.specs.View.{view}
+use Rattle.numbers.proofs.Seen.{record-count}
 use Rattle.sound.specs.Sound.{startOf}
-use Rattle.sound.proofs.Bytes.{fits-below, small, start-none, start-more}
+use Rattle.sound.proofs.Bytes.{start-none, start-more}
+use Rattle.sound.proofs.Slots.{slot-room, fits-seen, bytes-seen, bytes-small}
 use Rattle.sound.proofs.start_of.Statement.{statement}
 use Rattle.sound.proofs.start_of.Tie as tie
 
 abbrev Inv-loop : tie.InvT-loop
-Inv-loop i state j₀ at₀ j at = (j ≤ i) × ((at ≤ 2 + 33554432 * j) × (at ≡ startOf state j))
+Inv-loop l n i₀ end₀ i end =
+    (i ≤ n) × ((n ≤ 256) × ((end ≤ 2 + 33554432 * i) × (end ≡ startOf (view l) i)))
 
 abbrev μ-loop : tie.MeasureT-loop
-μ-loop i state j₀ at₀ j at = i - j
+μ-loop l n i₀ end₀ i end = n - i
 
 loop-holds : tie.Need-loop-holds Inv-loop μ-loop
-loop-holds c = (search needs, (search needs, start-none (c .args .t1)))
+loop-holds c = (omega arith, (omega (arith, record-count _ (c .before .pre .0)), (omega arith, start-none (view (c .before .args .l .now)))))
 
-mul-s : tie.Need-mul-s Inv-loop μ-loop
-mul-s c = omega arith
+mul-bytes-of : tie.Need-mul-bytes-of Inv-loop μ-loop
+mul-bytes-of c = omega arith
 
-element-copy-out-s : tie.Need-element-copy-out-s Inv-loop μ-loop
-element-copy-out-s c = omega arith
+add-bytes-of : tie.Need-add-bytes-of Inv-loop μ-loop
+add-bytes-of c = omega arith
 
 bytes-of-requires : tie.Need-bytes-of-requires Inv-loop μ-loop
-bytes-of-requires c κs = fits-below (c .before .before .before .args .t1) (search needs) (c .before .before .loop .j) (omega arith)
+bytes-of-requires c κs = (slot-room _ (c .before .before .before .pre .0) _ (omega (arith, c .before .before .before .pre .1 .1)), fits-seen (c .before .before .before .args .l .now) (c .before .before .before .pre .0) _ (omega (arith, c .before .before .before .pre .1 .1)) (c .before .before .before .pre .1 .0))
 
-add-at : tie.Need-add-at Inv-loop μ-loop
-add-at c = omega (arith, small (c .before .before .before .before .args .t1) (search needs) (c .before .before .before .loop .j) (omega arith) (c .bytes-of .ensures))
+add-end : tie.Need-add-end Inv-loop μ-loop
+add-end c = omega (arith, bytes-small (c .before .before .before .before .args .l .now) (c .before .before .before .before .pre .0) (c .before .before .loop .i) (omega (arith, c .before .before .before .before .pre .1 .1)) (c .before .before .before .before .pre .1 .0) (c .bytes-of .ensures))
 
-add-j : tie.Need-add-j Inv-loop μ-loop
-add-j c = omega arith
+add-i : tie.Need-add-i Inv-loop μ-loop
+add-i c = omega arith
 
 loop-less : tie.Need-loop-less Inv-loop μ-loop
 loop-less c = omega arith
 
 loop-again : tie.Need-loop-again Inv-loop μ-loop
-loop-again c =
-    let b = c .before .before .before .before .args .t1 in
-    let j = c .before .before .before .loop .j in
-    (search needs, (omega (arith, small b (search needs) j (omega arith) (c .bytes-of .ensures)), start-more b j (c .before .before .before .loop .inv .1 .1) (c .bytes-of .ensures)))
+loop-again c = (search needs, (search needs, (omega (arith, bytes-small (c .before .before .before .before .args .l .now) (c .before .before .before .before .pre .0) (c .before .before .loop .i) (omega (arith, c .before .before .before .before .pre .1 .1)) (c .before .before .before .before .pre .1 .0) (c .bytes-of .ensures)), start-more (view (c .before .before .before .before .args .l .now)) (c .before .before .loop .i) (c .before .before .loop .inv .1 .1 .1) (bytes-seen (c .before .before .before .before .args .l .now) (c .before .before .before .before .pre .0) (c .before .before .loop .i) (omega (arith, c .before .before .before .before .pre .1 .1)) (c .bytes-of .ensures)))))
 
 returns : tie.Need-returns Inv-loop μ-loop
-returns c =
-    let e : c .before .loop .j ≡ c .before .before .args .i = omega arith in
-    (rw e at (c .before .loop .inv .1 .1), omega arith)
+returns c = let e : c .before .loop .i ≡ c .before .before .before .args .n = omega arith in (c .before .loop .inv .1 .1 .1 ∙ ap (startOf (view (c .before .before .before .args .l .now))) e, omega arith)
 
 pub start-of-spec : {M : Type 1} → statement M
 start-of-spec =
@@ -53,11 +52,11 @@ start-of-spec =
     Inv-loop
     μ-loop
     loop-holds
-    mul-s
-    element-copy-out-s
+    mul-bytes-of
+    add-bytes-of
     bytes-of-requires
-    add-at
-    add-j
+    add-end
+    add-i
     loop-less
     loop-again
     returns)

@@ -10,7 +10,7 @@ slice-aggregate-on-parts-2 : tie.Need-slice-aggregate-on-parts-2
 slice-aggregate-on-parts-2 c = zeros 65536
 
 on-parts-requires : tie.Need-on-parts-requires
-on-parts-requires c κs = let asked = c .before .before .pre in (served 65536 (asked .0), served 65536 (asked .1))
+on-parts-requires c κs = let asked = c .before .before .before .pre in (asked .0, (served 65536 (asked .1 .0), served 65536 (asked .1 .1)))
 
 returns : tie.Need-returns
 returns c = tt

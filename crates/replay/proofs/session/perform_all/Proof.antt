@@ -1,4 +1,4 @@
--- `replay::session::perform_all` is safe and ends. The invariant: the memories and the units keep their lengths. The measure is what is left of the script. Assumes nothing.
+-- `replay::session::perform_all` is safe and ends. The invariant: the numbers, the memories and the units keep their lengths. The measure is what is left of the script. Assumes nothing.
 use mathlib.Core.Path.{_≡_, refl, sym, _∙_}
 use Prim.Native.Nat.{_-_}
 use native.Mathlib.Omega.{arith}
@@ -10,14 +10,15 @@ use Rattle.replay.proofs.session.perform_all.Statement.{statement}
 use Rattle.replay.proofs.session.perform_all.Tie as tie
 
 abbrev Inv-loop : tie.InvT-loop
-Inv-loop s shown panel₀ store₀ bench₀ units₀ at₀ panel store bench units at =
-    (length panel ≡ length panel₀) × ((length store ≡ length store₀) × (length units ≡ 70000))
+Inv-loop s shown bench₀ panel₀ store₀ units₀ at₀ bench panel store units at =
+    (length bench ≡ length bench₀)
+    × ((length panel ≡ length panel₀) × ((length store ≡ length store₀) × (length units ≡ 70000)))
 
 abbrev μ-loop : tie.MeasureT-loop
-μ-loop s shown panel₀ store₀ bench₀ units₀ at₀ panel store bench units at = length s - at
+μ-loop s shown bench₀ panel₀ store₀ units₀ at₀ bench panel store units at = length s - at
 
 loop-holds : tie.Need-loop-holds Inv-loop μ-loop
-loop-holds c = (refl, (refl, sym (zeros 70000)))
+loop-holds c = (refl, (refl, (refl, sym (zeros 70000))))
 
 read-call-requires : tie.Need-read-call-requires Inv-loop μ-loop
 read-call-requires c κs = search needs
@@ -32,10 +33,10 @@ add-at : tie.Need-add-at Inv-loop μ-loop
 add-at c = search needs
 
 loop-less : tie.Need-loop-less Inv-loop μ-loop
-loop-less c = omega (arith, c .before .before .before .before .before .before .loop-test .taken)
+loop-less c = omega (arith, c .before .before .before .before .before .before .before .loop-test .taken)
 
 loop-again : tie.Need-loop-again Inv-loop μ-loop
-loop-again c = c .before .before .before .before .before .before .before .loop .inv
+loop-again c = c .before .before .before .before .before .before .before .before .loop .inv
 
 enum-known-call : tie.Need-enum-known-call Inv-loop μ-loop
 enum-known-call c = search needs
@@ -70,16 +71,19 @@ show-requires-2 c κs = search needs
 
 loop-less-2 : tie.Need-loop-less-2 Inv-loop μ-loop
 loop-less-2 c =
-    let told = c .before .before .before .before .before .before .before .before .before .before .before .before .before .before .before .before in
+    let told = c .before .before .before .before .before .before .before .before .before .before .before .before .before .before .before .before .before .before in
     omega (arith, ahead (told .before .before .read-call .ensures) (told .call .given .1), told .before .before .before .loop-test .taken)
 
 loop-again-2 : tie.Need-loop-again-2 Inv-loop μ-loop
 loop-again-2 c =
-    let done = c .before .before .before .before .before .before .before in
-    let taken = done .before .before .before .before .before .before in
+    let done = c .before .before .before .before .before .before .before .before in
+    let taken = done .before .before .before .before .before .before .before in
     let held = taken .before .before .before .before .before .before .before .loop .inv in (
-      done .perform .kept .1 .1 .1 .0 ∙ held .0,
-      (done .perform .kept .1 .1 .1 .1 .0 ∙ held .1 .0, taken .take-units .kept .1 .1 .1 .0 ∙ held .1 .1),
+      done .perform .kept .0 ∙ held .0,
+      (
+        done .perform .kept .1 .1 .1 .0 ∙ held .1 .0,
+        (done .perform .kept .1 .1 .1 .1 .0 ∙ held .1 .1 .0, taken .take-units .kept .1 .1 .1 .0 ∙ held .1 .1 .1),
+      ),
     )
 
 show-bad-call-requires : tie.Need-show-bad-call-requires Inv-loop μ-loop
@@ -91,14 +95,20 @@ same-length c = search needs
 same-length-2 : tie.Need-same-length-2 Inv-loop μ-loop
 same-length-2 c = search needs
 
-returns : tie.Need-returns Inv-loop μ-loop
-returns c = search needs
-
 same-length-3 : tie.Need-same-length-3 Inv-loop μ-loop
 same-length-3 c = search needs
 
+returns : tie.Need-returns Inv-loop μ-loop
+returns c = search needs
+
 same-length-4 : tie.Need-same-length-4 Inv-loop μ-loop
 same-length-4 c = search needs
+
+same-length-5 : tie.Need-same-length-5 Inv-loop μ-loop
+same-length-5 c = search needs
+
+same-length-6 : tie.Need-same-length-6 Inv-loop μ-loop
+same-length-6 c = search needs
 
 returns-2 : tie.Need-returns-2 Inv-loop μ-loop
 returns-2 c = search needs
@@ -130,7 +140,9 @@ perform-all-spec =
     show-bad-call-requires
     same-length
     same-length-2
-    returns
     same-length-3
+    returns
     same-length-4
+    same-length-5
+    same-length-6
     returns-2)

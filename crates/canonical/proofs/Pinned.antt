@@ -1,0 +1,202 @@
+-- The numbers in use are determined by the record that they are: each is a function of it. Assumes nothing.
+use mathlib.Core.Bool.{Bool, true, _&&_, _||_, true≢false}
+use mathlib.Core.List.{List, [], _∷_}
+use mathlib.Core.Path.{_≡_, refl, sym, _∙_, ap}
+use Prim.Native.Nat.{ℕ, zero, suc, _+_, _-_, _*_, _/_, _%_, _≤_, _<_, _^_}
+use native.Mathlib.Decide.{decLt}
+use native.Mathlib.Omega.{arith}
+use lib.Dec.{eqb}
+use lib.IntN.{ℤ, pos, negsuc, _-ℤ_}
+use lib.ListN.{drop}
+use lib.Seq.{ext-getD, getD-drop}
+use borrow.Author.Tests.{eqb-true, leb-true, ne-eqb}
+use Rattle.laws.proofs.Integer.{difference, eq-parts}
+use Rattle.laws.proofs.Test.{both, each}
+use Rattle.words.specs.Parts.{part}
+use Rattle.bigendian.specs.BigEndian.{signed32}
+use Rattle.bigendian.proofs.Signed.{below-half, from-half}
+use Rattle.gdi.specs.declared.GdiObject.{GdiObject}
+use Rattle.gdi.specs.declared.GdiObject.the-variants.{Dc as DcOf, Bitmap, Brush, Pen, Font}
+use Rattle.gdi.specs.declared.GdiState.{GdiState}
+use Rattle.gdi.specs.declared.Slot.{Slot}
+use Rattle.gdi.specs.Lookup.{slotAt}
+use Rattle.numbers.specs.Layout.{dcSize, objectSize, slotSize, headSize, panelLenPlace, storeLenPlace, widthPlace, heightPlace, framesLowPlace, framesHighPlace, nextHandlePlace, stockDirtyPlace, countPlace, screenPlace, slotsPlace, slotPlace, kindPlace, objectPlace, surfaceIn, presentIn, bitmapIn, bkTransparentIn, bitmapDirtyIn, bitmapSize}
+use Rattle.numbers.specs.Block.{at, flagOf, isFlag, bit, surfaceOf, surfaceNumber, bitmapOf, presentNumber, bitmapNumber, dcOf, isDc, objectOf, zerosFrom, isObject, slotOf, isSlot}
+use Rattle.numbers.specs.View.{view, isRecord}
+use Rattle.numbers.proofs.Block.{no-kind, dcNumbers}
+use Rattle.numbers.proofs.Record.{parts}
+use Rattle.numbers.proofs.Seen.{part-at, count-seen}
+use Rattle.numbers.proofs.View.{benchNumbers, slot-seen}
+
+-- flags, surfaces and bitmaps come back as their numbers
+flag-number : (n : ℕ) → n ≤ 1 → n ≡ bit (flagOf n)
+flag-number zero h = refl
+flag-number (suc zero) h = refl
+flag-number (suc (suc n)) h = absurd (omega arith)
+
+surface-number : (n : ℕ) → n ≤ 1 → n ≡ surfaceNumber (surfaceOf n)
+surface-number zero h = refl
+surface-number (suc zero) h = refl
+surface-number (suc (suc n)) h = absurd (omega arith)
+
+no-presence : (n h : ℕ) → (flagOf (suc (suc n)) || (eqb (suc (suc n)) 0 && eqb h 0)) ≡ true → ⊥
+no-presence n h t = true≢false (sym (rw (ne-eqb (suc (suc n)) 1 (λ e. omega arith), ne-eqb (suc (suc n)) 0 (λ e. omega arith)) at t))
+
+present-number : (n h : ℕ) → (flagOf n || (eqb n 0 && eqb h 0)) ≡ true → n ≡ presentNumber (bitmapOf n h)
+present-number zero h t = refl
+present-number (suc zero) h t = refl
+present-number (suc (suc n)) h t = absurd (no-presence n h t)
+
+bitmap-number : (n h : ℕ) → (flagOf n || (eqb n 0 && eqb h 0)) ≡ true → h ≡ bitmapNumber (bitmapOf n h)
+bitmap-number zero h t = eqb-true h 0 t
+bitmap-number (suc zero) h t = refl
+bitmap-number (suc (suc n)) h t = absurd (no-presence n h t)
+
+-- the two's complement of an integer of 32 bits
+abbrev complement : ℤ → ℕ
+complement (pos n) = n
+complement (negsuc n) = 4294967296 - suc n
+
+complement-back : (n : ℕ) → n < 2 ^ 32 → n ≡ complement (signed32 n)
+complement-back n h = by (decLt n (2 ^ 31))
+  where
+    by : Dec (n < 2 ^ 31) → n ≡ complement (signed32 n)
+    by (yes k) = rw (below-half (2 ^ 31) k) refl
+    by (no k) =
+        let e = from-half (2 ^ 31) {n = n} (omega arith) ∙ eq-parts (pos n -ℤ pos (2 * 2 ^ 31)) (negsuc (2 * 2 ^ 31 - suc n)) (omega (arith, difference (pos n) (pos (2 * 2 ^ 31)))) in
+        rw e (omega arith)
+
+-- the k numbers from p on
+abbrev listed : List ℕ → (p k : ℕ) → List ℕ
+listed l p zero = []
+listed l p (suc k) = at l p ∷ listed l (suc p) k
+
+listed-within : (l : List ℕ) (p k i : ℕ) → i < k → at l (p + i) ≡ at (listed l p k) i
+listed-within l p zero i h = absurd (omega arith)
+listed-within l p (suc k) zero h = ap (at l) (omega arith)
+listed-within l p (suc k) (suc i) h = ap (at l) (omega arith) ∙ listed-within l (suc p) k i (omega arith)
+
+listed-behind : (l : List ℕ) (p k i : ℕ) → k ≤ i → at (listed l p k) i ≡ 0
+listed-behind l p zero i h = refl
+listed-behind l p (suc k) zero h = absurd (omega arith)
+listed-behind l p (suc k) (suc i) h = listed-behind l (suc p) k i (omega arith)
+
+-- twelve numbers of which those from k on are 0 are the first k, and zeros
+zeros-behind : (l : List ℕ) (k : ℕ) → zerosFrom l k ≡ true → (i : ℕ) → i < objectSize → at l i ≡ at (listed l 0 k) i
+zeros-behind l k t i lt = by (decLt i k)
+  where
+    by : Dec (i < k) → at l i ≡ at (listed l 0 k) i
+    by (yes a) = ap (at l) (omega arith) ∙ listed-within l 0 k i a
+    by (no a) =
+        let e : i ≡ k + (i - k) = omega arith in
+        ap (at l) e ∙ eqb-true (at l (k + (i - k))) 0 (each (objectSize - k) (λ j. eqb (at l (k + j)) 0) t (i - k) (omega arith)) ∙ sym (listed-behind l 0 k i (omega arith))
+
+-- a DC's numbers, from the DC
+dc-listed : (l : List ℕ) → isDc l ≡ true → listed l 0 dcSize ≡ dcNumbers (dcOf l)
+unfolding isDc dcOf
+dc-listed l t =
+    let chosen : Bool = flagOf (at l presentIn) || (eqb (at l presentIn) 0 && eqb (at l bitmapIn) 0) in
+    let a = both (isFlag (at l surfaceIn)) (isFlag (at l bkTransparentIn) && chosen) t in
+    let b = both (isFlag (at l bkTransparentIn)) chosen (a .1) in
+    rw (← surface-number (at l surfaceIn) (leb-true (at l surfaceIn) 1 (a .0)), ← present-number (at l presentIn) (at l bitmapIn) (b .1), ← bitmap-number (at l presentIn) (at l bitmapIn) (b .1), ← flag-number (at l bkTransparentIn) (leb-true (at l bkTransparentIn) 1 (b .0)))
+
+dc-back : (l : List ℕ) → isDc l ≡ true → (i : ℕ) → i < dcSize → at l i ≡ at (dcNumbers (dcOf l)) i
+dc-back l t i lt = zeros-behind l dcSize refl i lt ∙ ap (λ (d : List ℕ). at d i) (dc-listed l t)
+
+-- an object's kind and numbers, from the object; the numbers past these are 0
+abbrev kindNumber : GdiObject → ℕ
+kindNumber (DcOf d) = 0
+kindNumber (Bitmap x) = 1
+kindNumber (Brush x) = 2
+kindNumber (Pen x) = 3
+kindNumber (Font x) = 4
+
+abbrev objectNumbers : GdiObject → List ℕ
+objectNumbers (DcOf d) = dcNumbers d
+objectNumbers (Bitmap x) = x .width ∷ x .height ∷ bit (x .«host_dirty») ∷ []
+objectNumbers (Brush x) = x .color .0 ∷ []
+objectNumbers (Pen x) = x .color .0 ∷ x .width ∷ []
+objectNumbers (Font x) = complement (x .height) ∷ []
+
+unknown-kind : (k : ℕ) (l : List ℕ) → isObject (suc (suc (suc (suc (suc k))))) l ≡ true → ⊥
+unknown-kind k l t = true≢false (sym t ∙ sym (no-kind (suc (suc (suc (suc (suc k))))) l (λ e. omega arith) (λ e. omega arith) (λ e. omega arith) (λ e. omega arith) (λ e. omega arith)))
+
+kind-back : (k : ℕ) (l : List ℕ) → isObject k l ≡ true → k ≡ kindNumber (objectOf k l)
+unfolding isObject objectOf
+kind-back zero l t = refl
+kind-back (suc zero) l t = refl
+kind-back (suc (suc zero)) l t = refl
+kind-back (suc (suc (suc zero))) l t = refl
+kind-back (suc (suc (suc (suc zero)))) l t = refl
+kind-back (suc (suc (suc (suc (suc k))))) l t = absurd (unknown-kind k l t)
+
+object-back : (k : ℕ) (l : List ℕ) → at l 0 < 2 ^ 32 → isObject k l ≡ true → (i : ℕ) → i < objectSize → at l i ≡ at (objectNumbers (objectOf k l)) i
+unfolding isObject objectOf
+object-back zero l b t i lt = dc-back l t i lt
+object-back (suc zero) l b t i lt =
+    let a = both (isFlag (at l bitmapDirtyIn)) (zerosFrom l bitmapSize) t in
+    zeros-behind l bitmapSize (a .1) i lt ∙ ap (λ (n : ℕ). at (at l 0 ∷ at l 1 ∷ n ∷ []) i) (flag-number (at l bitmapDirtyIn) (leb-true (at l bitmapDirtyIn) 1 (a .0)))
+object-back (suc (suc zero)) l b t i lt = zeros-behind l 1 t i lt
+object-back (suc (suc (suc zero))) l b t i lt = zeros-behind l 2 t i lt
+object-back (suc (suc (suc (suc zero)))) l b t i lt = zeros-behind l 1 t i lt ∙ ap (λ (n : ℕ). at (n ∷ []) i) (complement-back (at l 0) b)
+object-back (suc (suc (suc (suc (suc k))))) l b t i lt = absurd (unknown-kind k l t)
+
+-- a slot's numbers, from the slot
+abbrev slotNumbers : Slot → List ℕ
+slotNumbers s = s .handle ∷ kindNumber (s .object) ∷ objectNumbers (s .object)
+
+slot-back : (l : List ℕ) → at l objectPlace < 2 ^ 32 → isSlot l ≡ true → (i : ℕ) → i < slotSize → at l i ≡ at (slotNumbers (slotOf l)) i
+slot-back l b t zero lt = refl
+slot-back l b t (suc zero) lt = kind-back (at l kindPlace) (part l objectPlace objectSize) t
+slot-back l b t (suc (suc i)) lt =
+    ap (at l) (omega arith) ∙ sym (part-at l objectPlace objectSize i (omega arith))
+    ∙ object-back (at l kindPlace) (part l objectPlace objectSize) (rw (part-at l objectPlace objectSize 0 (omega arith)) b) t i (omega arith)
+
+-- what the numbers of a record are, by the record
+module _ (l : List ℕ) (small : (k : ℕ) → at l k < 2 ^ 32) (r : isRecord l ≡ true) where
+  bench-listed : listed l 0 headSize ≡ benchNumbers (view l)
+  unfolding view
+  bench-listed =
+      let low : at l framesLowPlace ≡ (at l framesLowPlace + 4294967296 * at l framesHighPlace) % 4294967296 = omega (arith, small framesLowPlace) in
+      let high : at l framesHighPlace ≡ (at l framesLowPlace + 4294967296 * at l framesHighPlace) / 4294967296 = omega (arith, small framesLowPlace) in
+      let flag = flag-number (at l stockDirtyPlace) (parts l r .flag) in
+      λ i. at l panelLenPlace ∷ at l storeLenPlace ∷ at l widthPlace ∷ at l heightPlace ∷ low i ∷ high i ∷ at l nextHandlePlace ∷ flag i ∷ at l countPlace ∷ []
+
+  bench-back : (k : ℕ) → k < headSize → at l k ≡ at (benchNumbers (view l)) k
+  bench-back k lt = ap (at l) (omega arith) ∙ listed-within l 0 headSize k lt ∙ ap (λ (d : List ℕ). at d k) bench-listed
+
+  screen-back : (k : ℕ) → k < dcSize → at l (screenPlace + k) ≡ at (dcNumbers (view l .screen)) k
+  unfolding view
+  screen-back k lt = sym (part-at l screenPlace dcSize k lt) ∙ dc-back (part l screenPlace dcSize) (parts l r .screen) k lt
+
+  table-back : (i k : ℕ) → i < at l countPlace → k < slotSize → at l (slotPlace i + k) ≡ at (slotNumbers (slotAt (view l) i)) k
+  table-back i k lt h =
+      sym (part-at l (slotPlace i) slotSize k h)
+      ∙ slot-back (part l (slotPlace i) slotSize) (rw (part-at l (slotPlace i) slotSize objectPlace (omega arith)) (small (slotPlace i + objectPlace))) (parts l r .slots i lt) k h
+      ∙ sym (ap (λ s. at (slotNumbers s) k) (slot-seen l i lt (omega (arith, parts l r .few))))
+
+-- two lists of numbers that are the same record, and agree past its last object
+pub same-numbers : (l m : List ℕ) → ((k : ℕ) → at l k < 2 ^ 32) → ((k : ℕ) → at m k < 2 ^ 32) → isRecord l ≡ true → isRecord m ≡ true → view l ≡ view m → drop (slotPlace (at l countPlace)) l ≡ drop (slotPlace (at m countPlace)) m → l ≡ m
+same-numbers l m sl sm rl rm e rest =
+    ext-getD 0 l m (parts l rl .long ∙ sym (parts m rm .long)) (λ k lt. by k (decLt k headSize) (decLt k slotsPlace) (decLt k (slotPlace (at l countPlace))))
+  where
+    counts : at l countPlace ≡ at m countPlace
+    counts = sym (count-seen l) ∙ ap (λ (b : GdiState). b .count) e ∙ count-seen m
+
+    by : (k : ℕ) → Dec (k < headSize) → Dec (k < slotsPlace) → Dec (k < slotPlace (at l countPlace)) → at l k ≡ at m k
+    by k (yes a) b c = bench-back l sl rl k a ∙ ap (λ (b : GdiState). at (benchNumbers b) k) e ∙ sym (bench-back m sm rm k a)
+    by k (no a) (yes b) c =
+        let i : screenPlace + (k - screenPlace) ≡ k = omega arith in
+        rw i at (screen-back l sl rl (k - screenPlace) (omega arith) ∙ ap (λ (b : GdiState). at (dcNumbers (b .screen)) (k - screenPlace)) e ∙ sym (screen-back m sm rm (k - screenPlace) (omega arith)))
+    by k (no a) (no b) (yes c) =
+        let i : ℕ = (k - slotsPlace) / slotSize in
+        let j : ℕ = (k - slotsPlace) % slotSize in
+        let p : slotPlace i + j ≡ k = omega arith in
+        let below : i < at l countPlace = omega arith in
+        rw p at (table-back l sl rl i j below (omega arith) ∙ ap (λ (b : GdiState). at (slotNumbers (slotAt b i)) j) e ∙ sym (table-back m sm rm i j (omega (arith, counts)) (omega arith)))
+    by k (no a) (no b) (no c) =
+        let i : slotPlace (at l countPlace) + (k - slotPlace (at l countPlace)) ≡ k = omega arith in
+        let j : slotPlace (at m countPlace) + (k - slotPlace (at l countPlace)) ≡ k = omega (arith, counts) in
+        ap (at l) (sym i) ∙ sym (getD-drop (slotPlace (at l countPlace)) l (k - slotPlace (at l countPlace)) 0)
+        ∙ ap (λ (d : List ℕ). at d (k - slotPlace (at l countPlace))) rest
+        ∙ getD-drop (slotPlace (at m countPlace)) m (k - slotPlace (at l countPlace)) 0 ∙ ap (at m) j

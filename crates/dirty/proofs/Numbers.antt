@@ -1,0 +1,199 @@
+-- Numbers that took a mark are the record with that mark. Assumes nothing.
+use mathlib.Core.Bool.{Bool, true, false}
+use mathlib.Core.List.{List}
+use mathlib.Core.Path.{_≡_, refl, sym, _∙_, ap, subst}
+use Prim.Native.Nat.{ℕ, _+_, _-_, _*_, _%_, _/_, _≤_, _<_}
+use native.Mathlib.Omega.{arith}
+use lib.Dec.{eqb}
+use lib.ListN.{length, set, length-set}
+use lib.Seq.{getD-set-same, getD-set-other}
+use Rattle.laws.proofs.Test.{both, all-same}
+use Rattle.words.specs.Parts.{part}
+use Rattle.gdi.specs.declared.GdiState.{GdiState}
+use Rattle.gdi.specs.declared.Found.the-variants.{At}
+use Rattle.gdi.specs.declared.GdiObject.{GdiObject}
+use Rattle.gdi.specs.declared.GdiObject.the-variants.{Bitmap as BitmapOf}
+use Rattle.gdi.specs.Lookup.{slotAt, handleAt, objectAt, findOf}
+use Rattle.gdi.specs.Updates.{withStockDirty, withObjects, withHostDirty}
+use Rattle.gdi.proofs.Scan.{found-count}
+use Rattle.numbers.specs.Layout.{dcSize, objectSize, slotSize, framesLowPlace, framesHighPlace, stockDirtyPlace, countPlace, screenPlace, slotPlace, kindPlace, objectPlace, bitmapDirtyPlace, bitmapWidthIn, bitmapHeightIn, bitmapDirtyIn, bitmapSize}
+use Rattle.numbers.specs.Block.{bitmapFields, at, isFlag, isDc, objectOf, zerosFrom, isObject, slotOf, ObjectCoded, SlotCoded}
+use Rattle.numbers.specs.View.{view, isRecord, Stored}
+use Rattle.numbers.proofs.Record.{parts}
+use Rattle.numbers.proofs.Seen.{count-seen, handle-seen, object-seen, object-bitmap, object-part, part-at, by-kind}
+use Rattle.numbers.proofs.View.{slot-seen}
+use Rattle.place.specs.declared.SurfaceId.{SurfaceId}
+use Rattle.dirty.specs.Dirty.{objectDirtied, slotDirtied, framed, dirtied, dirtiedIf}
+use Rattle.numbers.proofs.Updates.{frames-seen, stock-seen as stock-same}
+use Rattle.numbers.proofs.Kept.{Kept, kept-all, kept-set, part-kept, table-kept, front-record, front-rest, slot-stored}
+use Rattle.lookup.proofs.Stores.{slot-from}
+
+-- nothing done
+pub nothing-done : (l : List ℕ) → isRecord l ≡ true → Stored l (view l) l
+nothing-done l r = record { is-record = r; same = refl; rest = refl }
+
+-- the slot that is found holds an object
+pub found-in : (l : List ℕ) (h : ℕ) {i : ℕ} → findOf (view l) h ≡ At i → i < at l countPlace
+found-in l h e = rw (count-seen l) at (found-count (view l) h e)
+
+-- a record that is the same as another
+pub stored-as : {l l′ : List ℕ} {b b′ : GdiState} → b ≡ b′ → Stored l b l′ → Stored l b′ l′
+stored-as {l} {l′} e s = subst (λ (b : GdiState). Stored l b l′) e s
+
+-- a mark that is due, and one that is not
+pub due-stored : {l l′ : List ℕ} (b : GdiState) (s : SurfaceId) {due : Bool} → due ≡ true → Stored l (dirtied b s) l′ → Stored l (dirtiedIf due s b) l′
+unfolding dirtiedIf
+due-stored b s e h = rw e h
+
+pub undue-stored : (l : List ℕ) (s : SurfaceId) {due : Bool} → isRecord l ≡ true → due ≡ false → Stored l (dirtiedIf due s (view l)) l
+unfolding dirtiedIf
+undue-stored l s r e = rw e (nothing-done l r)
+
+module _ (l l′ : List ℕ) (r : isRecord l ≡ true) where
+  -- a number of the bench, apart from the count
+  module _ {p n : ℕ} (kept : Kept l p n l′) (front : p + n ≤ countPlace) where
+    pub screen : part l′ screenPlace dcSize ≡ part l screenPlace dcSize
+    screen = part-kept kept screenPlace dcSize (λ j a b c d. omega arith)
+
+    behind : (k : ℕ) → p + n ≤ k → at l′ k ≡ at l k
+    behind k h = kept .same k (λ a b. omega arith)
+
+    pub head-stored : {b : GdiState} → view l′ ≡ b → b .count ≡ at l countPlace → at l′ stockDirtyPlace ≤ 1 → Stored l b l′
+    head-stored seen count flag =
+        record {
+          is-record = front-record l l′ r kept (omega arith) (behind countPlace front) flag (ap isDc screen ∙ parts l r .screen);
+          same = seen;
+          rest = rw count (front-rest l l′ r kept (omega arith) (behind countPlace front));
+        }
+
+  -- the frame counter
+  module _ (kept : Kept l framesLowPlace 2 l′) (more : at l′ framesLowPlace + 4294967296 * at l′ framesHighPlace ≡ (at l framesLowPlace + 4294967296 * at l framesHighPlace + 1) % 18446744073709551616) where
+    other : (k : ℕ) → (framesLowPlace ≤ k → k < framesLowPlace + 2 → ⊥) → at l′ k ≡ at l k
+    other k h = kept .same k h
+
+    counter-seen : view l′ ≡ framed (view l)
+    unfolding view
+    counter-seen =
+        frames-seen l l′ (screen kept (omega arith)) (table-kept l l′ r kept (omega arith) (other countPlace (λ a b. omega arith)))
+        (λ k h a b. other k (λ x y. omega arith)) more
+
+    pub counter-stored : Stored l (framed (view l)) l′
+    unfolding view
+    counter-stored = head-stored kept (omega arith) counter-seen refl (omega (arith, other stockDirtyPlace (λ a b. omega arith), parts l r .flag))
+
+  -- the stock bitmap's mark
+  module _ (kept : Kept l stockDirtyPlace 1 l′) (mark : at l′ stockDirtyPlace ≡ 1) where
+    beside : (k : ℕ) → (stockDirtyPlace ≤ k → k < stockDirtyPlace + 1 → ⊥) → at l′ k ≡ at l k
+    beside k h = kept .same k h
+
+    stock-seen : view l′ ≡ withStockDirty (view l)
+    stock-seen =
+        stock-same l l′ (screen kept (omega arith)) (table-kept l l′ r kept (omega arith) (beside countPlace (λ a b. omega arith)))
+        (λ k h a b. beside k (λ x y. omega arith)) mark
+
+    pub stock-stored : Stored l (withStockDirty (view l)) l′
+    unfolding view
+    stock-stored = head-stored kept (omega arith) stock-seen refl (omega arith)
+
+-- a bitmap's numbers with the mark
+bitmap-marked : (xs ys : List ℕ) → at xs bitmapWidthIn ≡ at ys bitmapWidthIn → at xs bitmapHeightIn ≡ at ys bitmapHeightIn → at xs bitmapDirtyIn ≡ 1 → ((j : ℕ) → j < objectSize - bitmapSize → at xs (bitmapSize + j) ≡ at ys (bitmapSize + j)) → isObject 1 ys ≡ true
+    → ObjectCoded (BitmapOf (withHostDirty (bitmapFields ys))) 1 xs
+unfolding objectOf isObject
+bitmap-marked xs ys a b m same good =
+    record {
+      is-object = rw m (all-same (objectSize - bitmapSize) (λ j. eqb (at xs (bitmapSize + j)) 0) (λ j. eqb (at ys (bitmapSize + j)) 0) (λ j lt. ap (λ (v : ℕ). eqb v 0) (same j lt)) ∙ both (isFlag (at ys bitmapDirtyIn)) (zerosFrom ys bitmapSize) good .1);
+      same = rw (a, b, m);
+    }
+
+module _ (l : List ℕ) (r : isRecord l ≡ true) (i : ℕ) (lt : i < at l countPlace) where
+  abbrev slotMarked : GdiState
+  slotMarked = withObjects (view l) (view l .«next_handle») (view l .count) (set (view l .objects) i (slotDirtied (slotAt (view l) i)))
+
+  pub room : slotPlace i + slotSize ≤ length l
+  room = omega (arith, lt, parts l r .few, parts l r .long)
+
+  -- a slot that is no bitmap's
+  pub other-kept : (at l (slotPlace i + kindPlace) ≡ 1 → ⊥) → Stored l slotMarked l
+  other-kept ne = slot-stored l l r i lt (kept-all l (slotPlace i) slotSize) (record { is-slot = parts l r .slots i lt; same = same ∙ ap slotDirtied (sym seen) })
+    where
+      slot : List ℕ
+      slot = part l (slotPlace i) slotSize
+
+      seen : slotAt (view l) i ≡ slotOf slot
+      seen = slot-seen l i lt (omega (arith, parts l r .few))
+
+      kind : at slot kindPlace ≡ 1 → ⊥
+      kind e = ne (sym (part-at l (slotPlace i) slotSize 1 (omega arith)) ∙ e)
+
+      same : slotOf slot ≡ slotDirtied (slotOf slot)
+      same =
+          ap (λ (o : GdiObject). record { handle = at slot 0; object = o })
+          (by-kind (at slot kindPlace) (part slot objectPlace objectSize) (λ o. o ≡ objectDirtied o) (λ e. refl) (λ e. absurd (kind e)) (λ x. refl) (λ x. refl) (λ x. refl))
+
+  -- a bitmap's slot that took the mark
+  bitmap-stored : at l (slotPlace i + kindPlace) ≡ 1 → (l′ : List ℕ) → Kept l (slotPlace i + bitmapDirtyPlace) 1 l′ → at l′ (slotPlace i + bitmapDirtyPlace) ≡ 1 → Stored l slotMarked l′
+  bitmap-stored one l′ kept mark = slot-stored l l′ r i lt (record { long = kept .long; same = λ k out. kept .same k (λ a b. out (omega arith) (omega arith)) }) put
+    where
+      same : (k : ℕ) → (k ≡ 4 → ⊥) → at l′ (slotPlace i + k) ≡ at l (slotPlace i + k)
+      same k ne = kept .same (slotPlace i + k) (λ a b. ne (omega arith))
+
+      xs : List ℕ
+      xs = part l′ (slotPlace i + objectPlace) objectSize
+
+      ys : List ℕ
+      ys = part l (slotPlace i + objectPlace) objectSize
+
+      number : (k : ℕ) → k < objectSize → (k ≡ bitmapDirtyIn → ⊥) → at xs k ≡ at ys k
+      number k b ne =
+          part-at l′ (slotPlace i + objectPlace) objectSize k b ∙ ap (at l′) (omega arith) ∙ same (2 + k) (λ e. ne (omega arith)) ∙ ap (at l) (omega arith) ∙ sym (part-at l (slotPlace i + objectPlace) objectSize k b)
+
+      third : slotPlace i + objectPlace + bitmapDirtyIn ≡ slotPlace i + bitmapDirtyPlace
+      third = omega arith
+
+      good : isObject 1 ys ≡ true
+      good = rw (part-at l (slotPlace i) slotSize 1 (omega arith), one, object-part l (slotPlace i)) at (parts l r .slots i lt)
+
+      was : objectAt (view l) i ≡ BitmapOf (bitmapFields ys)
+      was = object-seen l r i lt ∙ object-bitmap _ _ one
+
+      coded : ObjectCoded (objectDirtied (objectAt (view l) i)) 1 xs
+      coded =
+          rw was
+          (bitmap-marked xs ys (number 0 (omega arith) (λ e. omega arith)) (number 1 (omega arith) (λ e. omega arith))
+          (part-at l′ (slotPlace i + objectPlace) objectSize 2 (omega arith) ∙ ap (at l′) third ∙ mark)
+          (λ j b. number (bitmapSize + j) (omega arith) (λ e. omega arith)) good)
+
+      put : SlotCoded (slotDirtied (slotAt (view l) i)) (part l′ (slotPlace i) slotSize)
+      put =
+          slot-from 1 (handleAt (view l .objects) i) (part l′ (slotPlace i) slotSize) xs
+          (part-at l′ (slotPlace i) slotSize 0 (omega arith) ∙ same 0 (λ e. omega arith) ∙ ap (at l) (omega arith) ∙ sym (handle-seen l r i lt))
+          (part-at l′ (slotPlace i) slotSize 1 (omega arith) ∙ same 1 (λ e. omega arith) ∙ one)
+          (object-part l′ (slotPlace i)) coded
+
+  pub bitmap-set : at l (slotPlace i + kindPlace) ≡ 1 → Stored l slotMarked (set l (slotPlace i + bitmapDirtyPlace) 1)
+  bitmap-set one =
+      bitmap-stored one (set l (slotPlace i + bitmapDirtyPlace) 1) (kept-set (slotPlace i + bitmapDirtyPlace) 1 (kept-all l (slotPlace i + bitmapDirtyPlace) 1) (omega arith) (omega arith))
+      (getD-set-same l (slotPlace i + bitmapDirtyPlace) 1 0 (omega (arith, room)))
+
+-- as the code stores them
+module _ (l : List ℕ) (r : isRecord l ≡ true) where
+  pub stock-set : Stored l (withStockDirty (view l)) (set l stockDirtyPlace 1)
+  stock-set = stock-stored l (set l stockDirtyPlace 1) r (kept-set stockDirtyPlace 1 (kept-all l stockDirtyPlace 1) (omega arith) (omega arith)) (getD-set-same l stockDirtyPlace 1 0 (omega (arith, parts l r .long)))
+
+  pub counter-set : (n : ℕ) → n ≡ (at l framesLowPlace + 4294967296 * at l framesHighPlace + 1) % 18446744073709551616 → Stored l (framed (view l)) (set (set l framesLowPlace (n % 4294967296)) framesHighPlace (n / 4294967296))
+  counter-set n e = counter-stored l whole r (kept-set framesHighPlace high (kept-set framesLowPlace low (kept-all l framesLowPlace 2) (omega arith) (omega arith)) (omega arith) (omega arith)) (rw (first, second) (omega arith))
+    where
+      low : ℕ
+      low = n % 4294967296
+
+      high : ℕ
+      high = n / 4294967296
+
+      whole : List ℕ
+      whole = set (set l framesLowPlace low) framesHighPlace high
+
+      first : at whole framesLowPlace ≡ low
+      first = getD-set-other (set l framesLowPlace low) framesHighPlace framesLowPlace high 0 (λ x. omega arith) ∙ getD-set-same l framesLowPlace low 0 (omega (arith, parts l r .long))
+
+      second : at whole framesHighPlace ≡ high
+      second = getD-set-same (set l framesLowPlace low) framesHighPlace high 0 (omega (arith, length-set l framesLowPlace low, parts l r .long))

@@ -1,0 +1,158 @@
+// DCs, objects and slots put into blocks of a record's numbers.
+ghost use mathlib.Core.Path.{_≡_};
+ghost use mathlib.Core.List.{[], _∷_};
+ghost use lib.ListN.{length};
+ghost use Rattle.bigendian.specs.BigEndian.{signed32};
+ghost use Rattle.numbers.specs.Layout.{dcSize, objectSize, slotSize};
+ghost use Rattle.numbers.specs.Block.{surfaceNumber, presentNumber, bitmapNumber, DcCoded, ObjectCoded, SlotCoded};
+use gdi::Dc;
+use gdi::DcSurface;
+use gdi::GdiObject;
+use gdi::SelectedBitmap;
+use gdi::Slot;
+use numbers::KIND;
+use numbers::OBJECT;
+use numbers::SLOT;
+
+fn surface_number(s: DcSurface) -> u32
+    ensures { λ r. ⌜ r ≡ surfaceNumber s ⌝ }
+{
+    match s {
+        DcSurface::Screen => 0,
+        DcSurface::Memory => 1,
+    }
+}
+
+fn present_number(b: SelectedBitmap) -> u32
+    ensures { λ r. ⌜ r ≡ presentNumber b ⌝ }
+{
+    match b {
+        SelectedBitmap::Unset => 0,
+        SelectedBitmap::Chosen(_) => 1,
+    }
+}
+
+fn bitmap_number(b: SelectedBitmap) -> u32
+    ensures { λ r. ⌜ r ≡ bitmapNumber b ⌝ }
+{
+    match b {
+        SelectedBitmap::Unset => 0,
+        SelectedBitmap::Chosen(h) => h,
+    }
+}
+
+// The two's complement of z.
+fn unsigned(z: i32) -> u32
+    ensures { λ r. ⌜ signed32 r ≡ z ⌝ }
+{
+    if z < 0 {
+        return ((z as i64) + 0x1_0000_0000) as u32;
+    }
+    z as u32
+}
+
+// Puts twelve numbers.
+fn put(
+    l: &mut [u32],
+    a: u32,
+    b: u32,
+    c: u32,
+    d: u32,
+    e: u32,
+    f: u32,
+    g: u32,
+    h: u32,
+    i: u32,
+    j: u32,
+    k: u32,
+    m: u32,
+)
+    requires { ⌜ length (now l) ≡ objectSize ⌝ }
+    ensures { λ _. ⌜ now (l .exit) ≡ a ∷ b ∷ c ∷ d ∷ e ∷ f ∷ g ∷ h ∷ i ∷ j ∷ k ∷ m ∷ [] ⌝ }
+{
+    l[0] = a;
+    l[1] = b;
+    l[2] = c;
+    l[3] = d;
+    l[4] = e;
+    l[5] = f;
+    l[6] = g;
+    l[7] = h;
+    l[8] = i;
+    l[9] = j;
+    l[10] = k;
+    l[11] = m;
+}
+
+// Puts three numbers, and zeros behind them.
+fn put_few(l: &mut [u32], a: u32, b: u32, c: u32)
+    requires { ⌜ length (now l) ≡ objectSize ⌝ }
+    ensures { λ _. ⌜ now (l .exit) ≡ a ∷ b ∷ c ∷ 0 ∷ 0 ∷ 0 ∷ 0 ∷ 0 ∷ 0 ∷ 0 ∷ 0 ∷ 0 ∷ [] ⌝ }
+{
+    put(l, a, b, c, 0, 0, 0, 0, 0, 0, 0, 0, 0);
+}
+
+// Puts a DC.
+pub fn put_dc(l: &mut [u32], d: Dc)
+    requires { ⌜ length (now l) ≡ dcSize ⌝ }
+    ensures { λ _. ⌜ DcCoded d (now (l .exit)) ⌝ }
+{
+    let surface = d.surface;
+    let bitmap = d.selected_bitmap;
+    put(
+        l,
+        surface_number(surface),
+        present_number(bitmap),
+        bitmap_number(bitmap),
+        d.selected_brush,
+        d.selected_pen,
+        d.selected_font,
+        d.brush_color.0,
+        d.pen_color.0,
+        d.text_color.0,
+        d.text_align,
+        d.bk_color.0,
+        numbers::flag_number(d.bk_transparent),
+    );
+}
+
+// Puts an object. Its kind.
+pub fn put_object(l: &mut [u32], object: GdiObject) -> u32
+    requires { ⌜ length (now l) ≡ objectSize ⌝ }
+    ensures { λ r. ⌜ ObjectCoded object r (now (l .exit)) ⌝ }
+{
+    match object {
+        GdiObject::Dc(d) => {
+            put_dc(l, d);
+            0
+        }
+        GdiObject::Bitmap(m) => {
+            let dirty = numbers::flag_number(m.host_dirty);
+            put_few(l, m.width, m.height, dirty);
+            1
+        }
+        GdiObject::Brush(x) => {
+            put_few(l, x.color.0, 0, 0);
+            2
+        }
+        GdiObject::Pen(x) => {
+            put_few(l, x.color.0, x.width, 0);
+            3
+        }
+        GdiObject::Font(x) => {
+            put_few(l, unsigned(x.height), 0, 0);
+            4
+        }
+    }
+}
+
+// Puts a slot.
+pub fn put_slot(l: &mut [u32], s: Slot)
+    requires { ⌜ length (now l) ≡ slotSize ⌝ }
+    ensures { λ _. ⌜ SlotCoded s (now (l .exit)) ⌝ }
+{
+    let o = s.object;
+    let kind = put_object(&mut l[OBJECT..SLOT], o);
+    l[0] = s.handle;
+    l[KIND] = kind;
+}

@@ -1,5 +1,0 @@
-pub mod Block
-pub mod Record
-pub mod Seen
-pub mod Slots
-pub mod View

@@ -1,2 +1,0 @@
-pub mod Encoded
-mod Slots

@@ -1,2 +1,0 @@
-mod Coded
-mod Complement

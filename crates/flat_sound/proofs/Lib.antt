@@ -1,2 +1,0 @@
-pub mod Objects
-pub mod Slots

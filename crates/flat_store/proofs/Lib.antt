@@ -1,4 +1,0 @@
-pub mod Kept
-pub mod Stores
-pub mod Marks
-pub mod Spotted

@@ -1,0 +1,123 @@
+-- A DC and an object as blocks of numbers of 32 bits.
+use mathlib.Core.Bool.{Bool, true, cond, _&&_, _||_}
+use mathlib.Core.List.{List}
+use mathlib.Core.Path.{_≡_}
+use Prim.Native.Nat.{ℕ, _+_, _-_}
+use lib.Dec.{eqb, leb}
+use lib.ListN.{getD}
+use Rattle.words.specs.Parts.{part}
+use Rattle.laws.specs.Test.{allBelow}
+use Rattle.bigendian.specs.BigEndian.{signed32}
+use Rattle.gdi.specs.declared.DcSurface.{DcSurface}
+use Rattle.gdi.specs.declared.DcSurface.the-variants.{Screen, Memory}
+use Rattle.gdi.specs.declared.SelectedBitmap.{SelectedBitmap}
+use Rattle.gdi.specs.declared.SelectedBitmap.the-variants.{Unset, Chosen}
+use Rattle.gdi.specs.declared.Dc.{Dc}
+use Rattle.gdi.specs.declared.Bitmap.{Bitmap as BitmapRecord}
+use Rattle.gdi.specs.declared.GdiObject.{GdiObject}
+use Rattle.gdi.specs.declared.GdiObject.the-variants.{Dc as DcOf, Bitmap, Brush, Pen, Font}
+use Rattle.gdi.specs.declared.Slot.{Slot}
+use Rattle.numbers.specs.Layout.{objectSize, kindPlace, objectPlace, surfaceIn, presentIn, bitmapIn, brushIn, penIn, fontIn, brushColorIn, penColorIn, textColorIn, textAlignIn, bkColorIn, bkTransparentIn, bitmapWidthIn, bitmapHeightIn, bitmapDirtyIn, colorIn, penWidthIn, fontHeightIn, bitmapSize, brushSize, penSize, fontSize}
+
+-- number k of a block
+abbrev pub at : List ℕ → ℕ → ℕ
+at l k = getD l k 0
+
+-- a flag is 0 or 1
+abbrev pub flagOf : ℕ → Bool
+flagOf n = eqb n 1
+
+abbrev pub isFlag : ℕ → Bool
+isFlag n = leb n 1
+
+abbrev pub bit : Bool → ℕ
+bit f = cond f 1 0
+
+-- 0 the screen, 1 memory
+abbrev pub surfaceOf : ℕ → DcSurface
+surfaceOf n = cond (flagOf n) Memory Screen
+
+abbrev pub surfaceNumber : DcSurface → ℕ
+surfaceNumber Screen = 0
+surfaceNumber Memory = 1
+
+-- whether a bitmap is selected, and its handle, 0 if none is
+abbrev pub bitmapOf : (present h : ℕ) → SelectedBitmap
+bitmapOf present h = cond (flagOf present) (Chosen h) Unset
+
+abbrev pub presentNumber : SelectedBitmap → ℕ
+presentNumber Unset = 0
+presentNumber (Chosen h) = 1
+
+abbrev pub bitmapNumber : SelectedBitmap → ℕ
+bitmapNumber Unset = 0
+bitmapNumber (Chosen h) = h
+
+-- A DC is twelve numbers: surface, bitmap present, bitmap, brush, pen, font, brush colour, pen colour, text colour, alignment,
+-- background colour, transparent.
+unfoldable pub dcOf : List ℕ → Dc
+dcOf l =
+    record {
+      surface = surfaceOf (at l surfaceIn);
+      «selected_bitmap» = bitmapOf (at l presentIn) (at l bitmapIn);
+      «selected_brush» = at l brushIn;
+      «selected_pen» = at l penIn;
+      «selected_font» = at l fontIn;
+      «brush_color» = record { 0 = at l brushColorIn };
+      «pen_color» = record { 0 = at l penColorIn };
+      «text_color» = record { 0 = at l textColorIn };
+      «text_align» = at l textAlignIn;
+      «bk_color» = record { 0 = at l bkColorIn };
+      «bk_transparent» = flagOf (at l bkTransparentIn);
+    }
+
+-- its flags are flags, and an absent bitmap has handle 0
+unfoldable pub isDc : List ℕ → Bool
+isDc l = isFlag (at l surfaceIn) && (isFlag (at l bkTransparentIn) && (flagOf (at l presentIn) || (eqb (at l presentIn) 0 && eqb (at l bitmapIn) 0)))
+
+-- a bitmap's record
+abbrev pub bitmapFields : List ℕ → BitmapRecord
+bitmapFields l = record { width = at l bitmapWidthIn; height = at l bitmapHeightIn; «host_dirty» = flagOf (at l bitmapDirtyIn) }
+
+-- An object is its kind's number and twelve numbers. Kinds are 0 DC, 1 bitmap, 2 brush, 3 pen, 4 font. A bitmap is width,
+-- height and dirty; a brush is colour; a pen colour and width; a font height in two's complement.
+unfoldable pub objectOf : (kind : ℕ) → List ℕ → GdiObject
+objectOf kind l =
+    cond (eqb kind 0) (DcOf (dcOf l)) (
+    cond (eqb kind 1) (Bitmap (bitmapFields l)) (
+    cond (eqb kind 2) (Brush (record { color = record { 0 = at l colorIn } })) (
+    cond (eqb kind 3) (Pen (record { color = record { 0 = at l colorIn }; width = at l penWidthIn }))
+    (Font (record { height = signed32 (at l fontHeightIn) })))))
+
+-- the numbers from k to the twelfth are 0
+abbrev pub zerosFrom : List ℕ → ℕ → Bool
+zerosFrom l k = allBelow (objectSize - k) (λ j. eqb (at l (k + j)) 0)
+
+-- a known kind, its flags are flags, and the numbers past its fields are 0
+unfoldable pub isObject : (kind : ℕ) → List ℕ → Bool
+isObject kind l =
+    cond (eqb kind 0) (isDc l) (
+    cond (eqb kind 1) (isFlag (at l bitmapDirtyIn) && zerosFrom l bitmapSize) (
+    cond (eqb kind 2) (zerosFrom l brushSize) (
+    cond (eqb kind 3) (zerosFrom l penSize) (
+    eqb kind 4 && zerosFrom l fontSize))))
+
+-- A slot is fourteen numbers: handle, kind, and the object's twelve.
+abbrev pub slotOf : List ℕ → Slot
+slotOf l = record { handle = at l 0; object = objectOf (at l kindPlace) (part l objectPlace objectSize) }
+
+abbrev pub isSlot : List ℕ → Bool
+isSlot l = isObject (at l kindPlace) (part l objectPlace objectSize)
+
+-- Numbers that are a DC, an object of the kind, a slot; and which one.
+pub record DcCoded (d : Dc) (l : List ℕ) : Type 0 where
+  pub is-dc : isDc l ≡ true
+  pub same : dcOf l ≡ d
+
+pub record ObjectCoded (o : GdiObject) (kind : ℕ) (l : List ℕ) : Type 0 where
+  pub is-object : isObject kind l ≡ true
+  pub same : objectOf kind l ≡ o
+
+pub record SlotCoded (s : Slot) (l : List ℕ) : Type 0 where
+  pub is-slot : isSlot l ≡ true
+  pub same : slotOf l ≡ s

@@ -1,0 +1,3 @@
+pub mod Layout
+pub mod Block
+pub mod View

@@ -1,0 +1,203 @@
+// A bench record as flat numbers of 32 bits, which a host keeps and lends: the DCs, objects and slots that its blocks of numbers
+// are.
+ghost use mathlib.Core.Path.{_≡_};
+ghost use Prim.Native.Nat.{_≤_};
+ghost use lib.ListN.{length};
+ghost use Rattle.bigendian.specs.BigEndian.{signed32};
+ghost use Rattle.numbers.specs.Layout.{dcSize, objectSize, slotSize};
+ghost use Rattle.numbers.specs.Block.{bit, surfaceOf, bitmapOf, dcOf, objectOf, slotOf};
+use color::Colorref;
+use gdi::Bitmap;
+use gdi::Brush;
+use gdi::Dc;
+use gdi::DcSurface;
+use gdi::Font;
+use gdi::GdiObject;
+use gdi::Pen;
+use gdi::SelectedBitmap;
+use gdi::Slot;
+
+// The layout (specs/Layout.antt). How many numbers a DC, an object, a slot and a record have.
+pub const DC: usize = 12;
+
+pub const OBJECT_SIZE: usize = 12;
+
+pub const SLOT: usize = 14;
+
+pub const RECORD: usize = 3605;
+
+// In a record: the memories' lengths, the panel's sides, the frame counter's halves, the next handle, the stock bitmap's mark, the
+// count, the screen DC, the first slot.
+pub const PANEL_LEN: usize = 0;
+
+pub const STORE_LEN: usize = 1;
+
+pub const WIDTH: usize = 2;
+
+pub const HEIGHT: usize = 3;
+
+pub const FRAMES_LOW: usize = 4;
+
+pub const FRAMES_HIGH: usize = 5;
+
+pub const NEXT_HANDLE: usize = 6;
+
+pub const STOCK_DIRTY: usize = 7;
+
+pub const COUNT: usize = 8;
+
+pub const SCREEN: usize = 9;
+
+pub const SLOTS: usize = 21;
+
+// In a slot, behind the handle: the kind, the object; of a bitmap the height and the mark.
+pub const KIND: usize = 1;
+
+pub const OBJECT: usize = 2;
+
+pub const BITMAP_HEIGHT: usize = 3;
+
+pub const BITMAP_DIRTY: usize = 4;
+
+// In a DC.
+pub const SURFACE: usize = 0;
+
+pub const BITMAP_PRESENT: usize = 1;
+
+pub const BITMAP: usize = 2;
+
+pub const BRUSH: usize = 3;
+
+pub const PEN: usize = 4;
+
+pub const FONT: usize = 5;
+
+pub const BRUSH_COLOR: usize = 6;
+
+pub const PEN_COLOR: usize = 7;
+
+pub const TEXT_COLOR: usize = 8;
+
+pub const TEXT_ALIGN: usize = 9;
+
+pub const BK_COLOR: usize = 10;
+
+pub const BK_TRANSPARENT: usize = 11;
+
+// In a bitmap, a brush or pen, a pen, a font.
+pub const WIDTH_IN: usize = 0;
+
+pub const HEIGHT_IN: usize = 1;
+
+pub const DIRTY_IN: usize = 2;
+
+pub const COLOR_IN: usize = 0;
+
+pub const PEN_WIDTH_IN: usize = 1;
+
+pub const FONT_HEIGHT_IN: usize = 0;
+
+// The numbers of a bitmap, a brush, a pen and a font; those behind them are 0.
+pub const BITMAP_SIZE: usize = 3;
+
+pub const BRUSH_SIZE: usize = 1;
+
+pub const PEN_SIZE: usize = 2;
+
+pub const FONT_SIZE: usize = 1;
+
+pub fn flag_number(f: bool) -> u32
+    ensures { λ r. ⌜ r ≡ bit f ⌝ }
+{
+    if f { 1 } else { 0 }
+}
+
+fn surface_of(n: u32) -> DcSurface
+    ensures { λ r. ⌜ r ≡ surfaceOf n ⌝ }
+{
+    if n == 1 {
+        DcSurface::Memory
+    } else {
+        DcSurface::Screen
+    }
+}
+
+fn bitmap_of(present: u32, handle: u32) -> SelectedBitmap
+    ensures { λ r. ⌜ r ≡ bitmapOf present handle ⌝ }
+{
+    if present == 1 {
+        SelectedBitmap::Chosen(handle)
+    } else {
+        SelectedBitmap::Unset
+    }
+}
+
+// The integer whose two's complement is n.
+fn signed(n: u32) -> i32
+    ensures { λ r. ⌜ r ≡ signed32 n ⌝ }
+{
+    if n < 0x8000_0000 {
+        return n as i32;
+    }
+    ((n as i64) - 0x1_0000_0000) as i32
+}
+
+pub fn dc_of(l: &[u32]) -> Dc
+    requires { ⌜ dcSize ≤ length (now l) ⌝ }
+    ensures { λ r. ⌜ r ≡ dcOf (now (l .entry)) ⌝ }
+{
+    let surface = surface_of(l[SURFACE]);
+    let bitmap = bitmap_of(l[BITMAP_PRESENT], l[BITMAP]);
+    Dc {
+        surface: surface,
+        selected_bitmap: bitmap,
+        selected_brush: l[BRUSH],
+        selected_pen: l[PEN],
+        selected_font: l[FONT],
+        brush_color: Colorref(l[BRUSH_COLOR]),
+        pen_color: Colorref(l[PEN_COLOR]),
+        text_color: Colorref(l[TEXT_COLOR]),
+        text_align: l[TEXT_ALIGN],
+        bk_color: Colorref(l[BK_COLOR]),
+        bk_transparent: l[BK_TRANSPARENT] == 1,
+    }
+}
+
+// The object of this kind.
+pub fn object_of(kind: u32, l: &[u32]) -> GdiObject
+    requires { ⌜ objectSize ≤ length (now l) ⌝ }
+    ensures { λ r. ⌜ r ≡ objectOf kind (now (l .entry)) ⌝ }
+{
+    match kind {
+        0 => {
+            let d = dc_of(l);
+            GdiObject::Dc(d)
+        }
+        1 => GdiObject::Bitmap(Bitmap {
+            width: l[WIDTH_IN],
+            height: l[HEIGHT_IN],
+            host_dirty: l[DIRTY_IN] == 1,
+        }),
+        2 => GdiObject::Brush(Brush {
+            color: Colorref(l[COLOR_IN]),
+        }),
+        3 => GdiObject::Pen(Pen {
+            color: Colorref(l[COLOR_IN]),
+            width: l[PEN_WIDTH_IN],
+        }),
+        _ => GdiObject::Font(Font {
+            height: signed(l[FONT_HEIGHT_IN]),
+        }),
+    }
+}
+
+pub fn slot_of(l: &[u32]) -> Slot
+    requires { ⌜ slotSize ≤ length (now l) ⌝ }
+    ensures { λ r. ⌜ r ≡ slotOf (now (l .entry)) ⌝ }
+{
+    let o = object_of(l[KIND], &l[OBJECT..SLOT]);
+    Slot {
+        handle: l[0],
+        object: o,
+    }
+}

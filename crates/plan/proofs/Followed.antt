@@ -1,0 +1,73 @@
+-- From the steps of a call to its plan followed. Assumes nothing.
+use mathlib.Core.Bool.{true}
+use mathlib.Core.List.{List, _++_}
+use mathlib.Core.Path.{_≡_, refl, sym, _∙_, ap, subst}
+use Prim.Native.Nat.{ℕ}
+use lib.ListN.{drop}
+use Rattle.gdi.specs.declared.GdiState.{GdiState}
+use Rattle.numbers.specs.Layout.{slotPlace}
+use Rattle.numbers.specs.View.{view, isRecord, Stored}
+use Rattle.paint.specs.Memories.{Memories}
+use Rattle.paint.specs.Paint.{after}
+use Rattle.plan.specs.Answer.{Parts, refused}
+use Rattle.plan.specs.Plan.{Outcome, Plan, told, refuse}
+use Rattle.plan.specs.Stroke.{Stroke, drawnBy, Stroked}
+use Rattle.plan.specs.Followed.{Followed, StrokedOn}
+use Rattle.plan.proofs.Strokes.{dirtied-by-count, stroked-then}
+
+-- numbers that are a record are it
+pub stored-same : {l : List ℕ} → isRecord l ≡ true → Stored l (view l) l
+stored-same r = record { is-record = r; same = refl; rest = refl }
+
+-- stored twice, with as many objects
+pub stored-twice : {l l₁ l′ : List ℕ} {b₁ b : GdiState} → b .count ≡ b₁ .count → Stored l b₁ l₁ → Stored l₁ b l′ → Stored l b l′
+stored-twice {l} {l₁} e s t = record { is-record = t .is-record; same = t .same; rest = t .rest ∙ subst (λ (n : ℕ). drop (slotPlace n) l₁ ≡ drop (slotPlace n) l) (sym e) (s .rest) }
+
+-- another name of the plan
+pub followed-as : {p q : Plan} {l : List ℕ} {ms : Memories} {a : Parts} {l′ : List ℕ} {ms′ : Memories} → p ≡ q → Followed q l ms a l′ ms′ → Followed p l ms a l′ ms′
+followed-as e f = rw e f
+
+module _ {p : Plan} {l : List ℕ} {ms : Memories} where
+  -- a refusal: of a record, and of any numbers
+  pub refusal : {n : ℕ} → isRecord l ≡ true → p ≡ refuse n (view l) → Followed p l ms (refused n) l ms
+  unfolding after
+  refusal r e = record { answer = rw e; numbers = λ z. rw e (stored-same r); memories = rw e; kept = λ z. (refl, refl) }
+
+  pub refusal-of-any : {n : ℕ} → (n ≡ 0 → ⊥) → p ≡ refuse n (view l) → Followed p l ms (refused n) l ms
+  unfolding after
+  refusal-of-any ne e = record { answer = rw e; numbers = λ z. absurd (ne z); memories = rw e; kept = λ z. (refl, refl) }
+
+  -- an accepted call: by its steps; one that paints nothing; one that changes nothing
+  pub acceptance : {b : GdiState} {a : Parts} {l′ : List ℕ} {ms′ : Memories} → a .number ≡ 0 → p .outcome ≡ record { state = b; answer = a }
+      → Stored l b l′ → ms′ ≡ after (view l) (p .paint) ms → Followed p l ms a l′ ms′
+  acceptance {l′ = l′} z e s m =
+      record {
+        answer = sym (ap (λ (o : Outcome). o .answer) e);
+        numbers = λ y. subst (λ (o : Outcome). Stored l (o .state) l′) (sym e) s;
+        memories = m;
+        kept = λ h. absurd (h z);
+      }
+
+  pub acceptance-told : {b : GdiState} {a : Parts} {l′ : List ℕ} → a .number ≡ 0 → p ≡ told b a → Stored l b l′ → Followed p l ms a l′ ms
+  unfolding after
+  acceptance-told z e s = acceptance z (ap (λ (q : Plan). q .outcome) e) s (rw e)
+
+  pub acceptance-same : {a : Parts} → isRecord l ≡ true → a .number ≡ 0 → p ≡ told (view l) a → Followed p l ms a l ms
+  acceptance-same r z e = acceptance-told z e (stored-same r)
+
+-- strokes on the numbers are strokes on the record that they are; strokes made in two steps are the strokes of one list
+pub stroked-on : {l l′ : List ℕ} {ss : List Stroke} {ms ms′ : Memories} → StrokedOn l ss ms l′ ms′ → Stroked (view l) ss ms (view l′) ms′
+stroked-on x = record { state = x .numbers .same; memories = x .memories }
+
+pub stroked-on-then : {l l₁ l′ : List ℕ} {ss ts : List Stroke} {ms ms₁ ms′ : Memories} → StrokedOn l ss ms l₁ ms₁ → StrokedOn l₁ ts ms₁ l′ ms′ → StrokedOn l (ss ++ ts) ms l′ ms′
+stroked-on-then {l} {l₁} {l′} {ss} {ts} x y =
+    let z = stroked-then (stroked-on x) (stroked-on y) in
+    record {
+      numbers = subst (λ (b : GdiState). Stored l b l′) (sym (y .numbers .same) ∙ z .state)
+          (stored-twice (dirtied-by-count ts (view l₁) ∙ ap (λ (b : GdiState). b .count) (x .numbers .same)) (x .numbers) (y .numbers));
+      memories = z .memories;
+    }
+
+-- a call that made strokes, whose plan is theirs
+pub strokes-followed : {p : Plan} {l l′ : List ℕ} {ss : List Stroke} {ms ms′ : Memories} {a : Parts} → a .number ≡ 0 → p ≡ drawnBy (view l) ss a → StrokedOn l ss ms l′ ms′ → Followed p l ms a l′ ms′
+strokes-followed z e x = acceptance z (ap (λ (q : Plan). q .outcome) e) (x .numbers) (rw e (x .memories))

@@ -1,0 +1,99 @@
+-- How the tests of a record's numbers come out. Assumes nothing.
+use mathlib.Core.Bool.{Bool, true, false, _&&_}
+use mathlib.Core.List.{List}
+use mathlib.Core.Path.{_≡_, refl, sym, _∙_, ap}
+use Prim.Native.Nat.{ℕ, zero, suc, _+_, _-_, _≤_, _<_}
+use native.Mathlib.Nat.{sub-self, add-zero}
+use native.Mathlib.Omega.{arith}
+use lib.Dec.{eqb, leb}
+use lib.ListN.{length}
+use borrow.Author.Tests.{lt-leb, le-leb, eq-eqb, ne-eqb}
+use Rattle.laws.specs.Test.{allBelow}
+use Rattle.laws.proofs.Test.{and-false, all-suc, all-more, all-fails}
+use Rattle.words.specs.Parts.{part}
+use Rattle.numbers.specs.Layout.{dcSize, objectSize, slotSize, recordSize, stockDirtyPlace, countPlace, screenPlace, slotPlace, surfaceIn, presentIn, bitmapIn, bkTransparentIn, bitmapDirtyIn, bitmapSize}
+use Rattle.numbers.specs.Block.{at, isFlag, isDc, zerosFrom, isObject, isSlot}
+use Rattle.numbers.specs.View.{isRecord}
+use Rattle.numbers.proofs.Slots.{lentSlot, lent-slot}
+use Rattle.well_formed.specs.Slots.{areSlots}
+
+-- a DC
+module _ (l : List ℕ) where
+  pub dc-surface : 1 < at l surfaceIn → false ≡ isDc l
+  unfolding isDc
+  dc-surface h = rw (lt-leb (at l surfaceIn) 1 h)
+
+  pub dc-transparent : 1 < at l bkTransparentIn → false ≡ isDc l
+  unfolding isDc
+  dc-transparent h = rw (lt-leb (at l bkTransparentIn) 1 h, and-false (isFlag (at l surfaceIn)))
+
+  pub dc-chosen : at l surfaceIn ≤ 1 → at l bkTransparentIn ≤ 1 → at l presentIn ≡ 1 → true ≡ isDc l
+  unfolding isDc
+  dc-chosen a b h = rw (le-leb (at l surfaceIn) 1 a, le-leb (at l bkTransparentIn) 1 b, eq-eqb (at l presentIn) 1 h)
+
+  pub dc-present : (at l presentIn ≡ 1 → ⊥) → (at l presentIn ≡ 0 → ⊥) → false ≡ isDc l
+  unfolding isDc
+  dc-present n h = rw (ne-eqb (at l presentIn) 1 n, ne-eqb (at l presentIn) 0 h, and-false (isFlag (at l bkTransparentIn)), and-false (isFlag (at l surfaceIn)))
+
+  pub dc-absent : at l surfaceIn ≤ 1 → at l bkTransparentIn ≤ 1 → (at l presentIn ≡ 1 → ⊥) → at l presentIn ≡ 0 → eqb (at l bitmapIn) 0 ≡ isDc l
+  unfolding isDc
+  dc-absent a b n h = rw (le-leb (at l surfaceIn) 1 a, le-leb (at l bkTransparentIn) 1 b, ne-eqb (at l presentIn) 1 n, eq-eqb (at l presentIn) 0 h)
+
+-- an object
+module _ (kind : ℕ) (l : List ℕ) where
+  pub bitmap-flag : kind ≡ 1 → 1 < at l bitmapDirtyIn → false ≡ isObject kind l
+  unfolding isObject
+  bitmap-flag e h = rw (e, lt-leb (at l bitmapDirtyIn) 1 h)
+
+  pub bitmap-zeros : kind ≡ 1 → at l bitmapDirtyIn ≤ 1 → zerosFrom l bitmapSize ≡ isObject kind l
+  unfolding isObject
+  bitmap-zeros e h = rw (e, le-leb (at l bitmapDirtyIn) 1 h)
+
+-- a sum is 0 if both parts are
+sum-zero : (s x : ℕ) → eqb (s + x) 0 ≡ (eqb x 0 && eqb s 0)
+sum-zero zero zero = refl
+sum-zero (suc s) zero = rw (add-zero (suc s))
+sum-zero s (suc x) = rw (ne-eqb (s + suc x) 0 (λ e. omega (arith, e)), ne-eqb (suc x) 0 (λ e. omega (arith, e)))
+
+-- the sum s of the numbers from k on, as far as i
+module _ (l : List ℕ) (k : ℕ) where
+  abbrev zerosTo : ℕ → Bool
+  zerosTo i = allBelow (i - k) (λ j. eqb (at l (k + j)) 0)
+
+  pub zeros-start : eqb 0 0 ≡ zerosTo k
+  zeros-start = rw (sub-self k)
+
+  pub zeros-more : (i s : ℕ) → k ≤ i → eqb s 0 ≡ zerosTo i → eqb (s + at l i) 0 ≡ zerosTo (i + 1)
+  zeros-more i s le h =
+      let f : ℕ → Bool = λ j. eqb (at l (k + j)) 0 in
+      let e : k + (i - k) ≡ i = omega arith in
+      let t : i + 1 - k ≡ suc (i - k) = omega arith in
+      rw (sum-zero s (at l i), t, all-suc (i - k) f, e, h)
+
+  pub zeros-end : (i s : ℕ) → i ≤ objectSize → objectSize ≤ i → eqb s 0 ≡ zerosTo i → eqb s 0 ≡ zerosFrom l k
+  zeros-end i s le ge h = let e : i ≡ objectSize = omega arith in rw e at h
+
+-- the test of one slot
+pub slot-passed : (l : List ℕ) (i : ℕ) {t : Bool} → areSlots l i ≡ true → t ≡ isSlot (lentSlot l i) → t ≡ true → areSlots l (i + 1) ≡ true
+slot-passed l i h e p = all-more i (λ k. isSlot (part l (slotPlace k) slotSize)) h (ap isSlot (sym (lent-slot l i)) ∙ sym e ∙ p)
+
+pub slot-failed : (l : List ℕ) (i n : ℕ) {t : Bool} → i < n → t ≡ isSlot (lentSlot l i) → t ≡ false → false ≡ areSlots l n
+slot-failed l i n h e p = sym (all-fails i n (λ k. isSlot (part l (slotPlace k) slotSize)) h (ap isSlot (sym (lent-slot l i)) ∙ sym e ∙ p))
+
+-- numbers that are no record
+module _ (l : List ℕ) where
+  pub too-short : (length l ≡ recordSize → ⊥) → false ≡ isRecord l
+  unfolding isRecord
+  too-short n = rw (ne-eqb (length l) recordSize n)
+
+  pub no-flag : 1 < at l stockDirtyPlace → false ≡ isRecord l
+  unfolding isRecord
+  no-flag h = rw (lt-leb (at l stockDirtyPlace) 1 h, and-false (eqb (length l) recordSize))
+
+  pub too-many : 256 < at l countPlace → false ≡ isRecord l
+  unfolding isRecord
+  too-many h = rw (lt-leb (at l countPlace) 256 h, and-false (isFlag (at l stockDirtyPlace)), and-false (eqb (length l) recordSize))
+
+  pub no-screen : isDc (part l screenPlace dcSize) ≡ false → false ≡ isRecord l
+  unfolding isRecord
+  no-screen h = rw (h, and-false (leb (at l countPlace) 256), and-false (isFlag (at l stockDirtyPlace)), and-false (eqb (length l) recordSize))

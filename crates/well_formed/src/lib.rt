@@ -1,0 +1,123 @@
+// Which flat numbers are a bench record.
+ghost use mathlib.Core.Path.{_≡_};
+ghost use Prim.Native.Nat.{_≤_};
+ghost use lib.ListN.{length};
+ghost use Rattle.numbers.specs.Layout.{dcSize, objectSize, slotSize, recordSize};
+ghost use Rattle.numbers.specs.Block.{isDc, isObject, zerosFrom, isSlot};
+ghost use Rattle.numbers.specs.View.{isRecord};
+ghost use Rattle.well_formed.specs.Slots.{areSlots};
+use numbers::BITMAP;
+use numbers::BITMAP_PRESENT;
+use numbers::BITMAP_SIZE;
+use numbers::BK_TRANSPARENT;
+use numbers::BRUSH_SIZE;
+use numbers::COUNT;
+use numbers::DIRTY_IN;
+use numbers::FONT_SIZE;
+use numbers::KIND;
+use numbers::OBJECT;
+use numbers::OBJECT_SIZE;
+use numbers::PEN_SIZE;
+use numbers::RECORD;
+use numbers::SCREEN;
+use numbers::SLOT;
+use numbers::SLOTS;
+use numbers::STOCK_DIRTY;
+use numbers::SURFACE;
+
+// Whether the numbers are a record.
+pub fn is_record(l: &[u32]) -> bool
+    ensures { λ r. ⌜ r ≡ isRecord (now (l .entry)) ⌝ }
+{
+    if l.len() != RECORD {
+        return false;
+    }
+    if l[STOCK_DIRTY] > 1 {
+        return false;
+    }
+    if l[COUNT] > 256 {
+        return false;
+    }
+    if !is_dc(&l[SCREEN..SLOTS]) {
+        return false;
+    }
+    are_slots(l, l[COUNT] as usize)
+}
+
+// Whether each of the first n slots is one.
+fn are_slots(l: &[u32], n: usize) -> bool
+    requires { ⌜ length (now l) ≡ recordSize ⌝ }
+    requires { ⌜ n ≤ 256 ⌝ }
+    ensures { λ r. ⌜ r ≡ areSlots (now (l .entry)) n ⌝ }
+{
+    let mut i: usize = 0;
+    while i < n {
+        let p = SLOTS + SLOT * i;
+        let e = p + SLOT;
+        if !is_slot(&l[p..e]) {
+            return false;
+        }
+        i += 1;
+    }
+    true
+}
+
+fn is_slot(l: &[u32]) -> bool
+    requires { ⌜ slotSize ≤ length (now l) ⌝ }
+    ensures { λ r. ⌜ r ≡ isSlot (now (l .entry)) ⌝ }
+{
+    is_object(l[KIND], &l[OBJECT..SLOT])
+}
+
+// Whether the numbers are an object of this kind.
+fn is_object(kind: u32, l: &[u32]) -> bool
+    requires { ⌜ objectSize ≤ length (now l) ⌝ }
+    ensures { λ r. ⌜ r ≡ isObject kind (now (l .entry)) ⌝ }
+{
+    match kind {
+        0 => is_dc(l),
+        1 => {
+            if l[DIRTY_IN] > 1 {
+                return false;
+            }
+            zeros_from(l, BITMAP_SIZE)
+        }
+        2 => zeros_from(l, BRUSH_SIZE),
+        3 => zeros_from(l, PEN_SIZE),
+        4 => zeros_from(l, FONT_SIZE),
+        _ => false,
+    }
+}
+
+fn is_dc(l: &[u32]) -> bool
+    requires { ⌜ dcSize ≤ length (now l) ⌝ }
+    ensures { λ r. ⌜ r ≡ isDc (now (l .entry)) ⌝ }
+{
+    if l[SURFACE] > 1 {
+        return false;
+    }
+    if l[BK_TRANSPARENT] > 1 {
+        return false;
+    }
+    if l[BITMAP_PRESENT] == 1 {
+        return true;
+    }
+    if l[BITMAP_PRESENT] != 0 {
+        return false;
+    }
+    l[BITMAP] == 0
+}
+
+// Whether the numbers from k to the twelfth are 0. Their sum tells, which is faster than to stop at the first that is not.
+fn zeros_from(l: &[u32], k: usize) -> bool
+    requires { ⌜ (k ≤ objectSize) × (objectSize ≤ length (now l)) ⌝ }
+    ensures { λ r. ⌜ r ≡ zerosFrom (now (l .entry)) k ⌝ }
+{
+    let mut sum: u64 = 0;
+    let mut i = k;
+    while i < OBJECT_SIZE {
+        sum += l[i] as u64;
+        i += 1;
+    }
+    sum == 0
+}
