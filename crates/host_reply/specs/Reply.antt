@@ -4,18 +4,19 @@ use mathlib.Core.List.{List}
 use mathlib.Core.Path.{_≡_}
 use Prim.Native.Nat.{ℕ}
 use lib.ListN.{replicate}
+use Rattle.numbers.specs.Layout.{objectSize}
 use Rattle.numbers.specs.Block.{bit, ObjectCoded}
 use Rattle.plan.specs.Answer.{Object, none, some, Parts}
 use Rattle.host_reply.specs.declared.Reply.{Reply}
 
--- an object's kind and its twelve numbers; 5 and zeros if there is none
+-- an object's kind and its numbers; 5 and zeros if there is none
 abbrev pub ObjectReplied : Object → (kind : ℕ) → List ℕ → Type 0
-ObjectReplied none kind l = (kind ≡ 5) × (l ≡ replicate 12 0)
+ObjectReplied none kind l = (kind ≡ 5) × (l ≡ replicate objectSize 0)
 ObjectReplied (some o) kind l = ObjectCoded o kind l
 
 -- a reply without an object
 abbrev pub plainReply : (refusal value : ℕ) → Bool → Reply
-plainReply n v f = record { refusal = n; value = v; flag = bit f; kind = 5; fields = replicate 12 0 }
+plainReply n v f = record { refusal = n; value = v; flag = bit f; kind = 5; fields = replicate objectSize 0 }
 
 -- A reply holds an answer's parts.
 pub record Replied (a : Parts) (r : Reply) : Type 0 where

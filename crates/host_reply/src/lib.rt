@@ -2,6 +2,7 @@
 ghost use mathlib.Core.Path.{_≡_};
 ghost use Rattle.plan.specs.Answer.{partsOf};
 ghost use Rattle.host_reply.specs.Reply.{plainReply, Replied};
+use numbers::OBJECT_SIZE;
 use plan::Answer;
 
 // The kind of a reply that has no object.
@@ -15,7 +16,7 @@ pub struct Reply {
     pub value: u32,
     pub flag: u32,
     pub kind: u32,
-    pub fields: [u32; 12],
+    pub fields: [u32; OBJECT_SIZE],
 }
 
 // An answer without an object.
@@ -27,7 +28,7 @@ fn plain(refusal: u32, value: u32, flag: bool) -> Reply
         value: value,
         flag: numbers::flag_number(flag),
         kind: NO_OBJECT,
-        fields: [0; 12],
+        fields: [0; OBJECT_SIZE],
     }
 }
 
@@ -40,7 +41,7 @@ pub fn reply_of(answer: Answer) -> Reply
         Answer::Handle(h) => plain(0, h, false),
         Answer::Deleted(f) => plain(0, 0, f),
         Answer::Removed(o) => {
-            let mut fields = [0u32; 12];
+            let mut fields = [0u32; OBJECT_SIZE];
             let kind = encode::put_object(&mut fields, o);
             Reply {
                 refusal: 0,

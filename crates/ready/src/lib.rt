@@ -47,14 +47,14 @@ pub fn is_sound(l: &[u32]) -> bool
     if 2 * (w * h) > panel_len {
         return false;
     }
-    if !sound::slots_fit(l) {
+    let end = sound::pixels_end(l);
+    if end == 0 {
         return false;
     }
     if !handles_differ(l) {
         return false;
     }
-    let count = l[COUNT] as usize;
-    sound::start_of(l, count) <= store_len
+    end <= store_len
 }
 
 // Whether each handle is above the one before it, as it is until handles have gone round.

@@ -16,9 +16,10 @@ use Rattle.numbers.specs.Layout.{slotSize, countPlace, slotPlace}
 use Rattle.numbers.specs.Block.{at}
 use Rattle.numbers.specs.View.{view, isRecord}
 use Rattle.numbers.proofs.Seen.{count-seen, record-length, record-count, handle-seen, object-seen}
-use Rattle.sound.specs.Sound.{objectFits, slotFits, slotsFit}
-use Rattle.sound.proofs.Bytes.{fits-below, small}
+use Rattle.sound.specs.Sound.{objectFits, slotFits, slotsFit, startOf}
+use Rattle.sound.proofs.Bytes.{bytes-le, fits-below, small}
 use Rattle.sound.proofs.Objects.{objectFrom}
+use Rattle.sound.proofs.Sound.{EndOf, no-end, end-used}
 
 -- a test of the first i slots, at the end of the table
 pub all-seen : (l : List ℕ) (f : ℕ → Bool) {i : ℕ} → i ≡ at l countPlace → allBelow i f ≡ true → true ≡ allBelow (view l .count) f
@@ -47,6 +48,11 @@ given-fits h a b =
       ne-eqb 0xDEAD_5720 h (λ e. omega arith),
     )
 
+-- the first i slots fit, and their pixels end here: at the end of the table
+pub last-end : (l : List ℕ) {i x : ℕ} → i ≡ at l countPlace → allBelow i (λ k. slotFits (slotAt (view l) k)) ≡ true → x ≡ startOf (view l) i → EndOf (view l) x
+last-end l e f g =
+    end-used (view l) (all-seen l (λ k. slotFits (slotAt (view l) k)) e f) (g ∙ ap (startOf (view l)) (e ∙ sym (count-seen l)))
+
 module _ (l : List ℕ) (r : isRecord l ≡ true) where
   pub slot-room : (i : ℕ) → i < at l countPlace → slotPlace i + slotSize ≤ length l
   slot-room i lt = omega (arith, record-count l r, record-length l r)
@@ -56,13 +62,23 @@ module _ (l : List ℕ) (r : isRecord l ≡ true) where
     slot-fits : slotFits (slotAt (view l) i) ≡ (handleFits (at l (slotPlace i)) && objectFits (objectFrom l (slotPlace i)))
     slot-fits = rw (handle-seen l r i lt, object-seen l r i lt) (and-group (not (eqb (at l (slotPlace i)) 0)) (not (isStock (at l (slotPlace i)))) (objectFits (objectFrom l (slotPlace i))))
 
-    pub handle-unfit : handleFits (at l (slotPlace i)) ≡ false → slotFits (slotAt (view l) i) ≡ false
-    handle-unfit e = slot-fits ∙ not-left (objectFits (objectFrom l (slotPlace i))) e
-
     pub by-object : handleFits (at l (slotPlace i)) ≡ true → {t : Bool} → objectFits (objectFrom l (slotPlace i)) ≡ t → slotFits (slotAt (view l) i) ≡ t
     by-object e f = slot-fits ∙ ap (λ (u : Bool). u && objectFits (objectFrom l (slotPlace i))) e ∙ f
 
-    -- its object, in a table whose slots fit
+    -- one that does not
+    unfit : slotFits (slotAt (view l) i) ≡ false → EndOf (view l) 0
+    unfit e = no-end (view l) (some-fails l (λ k. slotFits (slotAt (view l) k)) lt e)
+
+    pub handle-unfit : handleFits (at l (slotPlace i)) ≡ false → EndOf (view l) 0
+    handle-unfit e = unfit (slot-fits ∙ not-left (objectFits (objectFrom l (slotPlace i))) e)
+
+    pub object-unfit : handleFits (at l (slotPlace i)) ≡ true → objectFits (objectFrom l (slotPlace i)) ≡ false → EndOf (view l) 0
+    object-unfit e f = unfit (by-object e f)
+
+    -- the bytes of its object, and in a table whose slots fit
+    pub bytes-few : objectFits (objectFrom l (slotPlace i)) ≡ true → {x : ℕ} → x ≡ bytesOf (objectFrom l (slotPlace i)) → x ≤ 33554432
+    bytes-few f e = rw e (bytes-le (objectFrom l (slotPlace i)) f)
+
     pub fits-seen : slotsFit (view l) ≡ true → objectFits (objectFrom l (slotPlace i)) ≡ true
     fits-seen f = sym (ap objectFits (object-seen l r i lt)) ∙ fits-below (view l) f i (rw (count-seen l) lt)
 

@@ -1,6 +1,6 @@
 // What the objects of a record lent as numbers have to be, and where their pixels begin.
 ghost use mathlib.Core.Path.{_≡_};
-ghost use mathlib.Core.Bool.{true, not, _&&_};
+ghost use mathlib.Core.Bool.{true, not, cond, _&&_};
 ghost use Prim.Native.Nat.{_+_, _*_, _≤_};
 ghost use lib.Dec.{eqb};
 ghost use lib.ListN.{length};
@@ -10,7 +10,7 @@ ghost use Rattle.gdi.specs.Stock.{isStock};
 ghost use Rattle.numbers.specs.Layout.{objectSize, slotSize, countPlace, kindPlace, objectPlace};
 ghost use Rattle.numbers.specs.Block.{at, objectOf};
 ghost use Rattle.numbers.specs.View.{view, isRecord};
-ghost use Rattle.sound.specs.Sound.{objectFits, slotsFit, startOf};
+ghost use Rattle.sound.specs.Sound.{objectFits, slotsFit, startOf, used};
 use gdi::GDI_HANDLE_BASE;
 use gdi::GdiObject;
 use gdi::STOCK_WHITE_BRUSH;
@@ -89,24 +89,27 @@ fn handle_fits(h: u32) -> bool
     !gdi::is_stock_handle(h)
 }
 
-// Whether every created object is what it has to be.
-pub fn slots_fit(l: &[u32]) -> bool
+// Where the pixels of the created objects end in the store, behind those of the stock bitmap; 0 if an object is not what it has to
+// be.
+pub fn pixels_end(l: &[u32]) -> usize
     requires { ⌜ isRecord (now l) ≡ true ⌝ }
-    ensures { λ r. ⌜ r ≡ slotsFit (view (now (l .entry))) ⌝ }
+    ensures { λ r. ⌜ r ≡ cond (slotsFit (view (now (l .entry)))) (used (view (now (l .entry)))) 0 ⌝ }
 {
     let n = l[COUNT] as usize;
     let mut i: usize = 0;
+    let mut end: usize = 2;
     while i < n {
         let p = SLOTS + SLOT * i;
         if !handle_fits(l[p]) {
-            return false;
+            return 0;
         }
         if !object_fits(l, p) {
-            return false;
+            return 0;
         }
+        end += bytes_of(l, p);
         i += 1;
     }
-    true
+    end
 }
 
 // Where the pixels of object n begin in the store: behind those of the stock bitmap and of the objects before it.
