@@ -67,6 +67,17 @@ module _ (l : List ℕ) where
   unfolding view
   screen-seen = refl
 
+-- slot i of an object, of at most 256
+module _ (l : List ℕ) (few : at l countPlace ≤ 256) (i : ℕ) (lt : i < at l countPlace) where
+  pub handle-read : handleAt (view l .objects) i ≡ at l (slotPlace i)
+  handle-read = ap (λ s. s .handle) (slot-seen l i lt (omega arith)) ∙ part-at l (slotPlace i) slotSize 0 (omega arith) ∙ ap (at l) (omega arith)
+
+  pub object-read : objectAt (view l) i ≡ objectOf (at l (slotPlace i + kindPlace)) (part l (slotPlace i + objectPlace) objectSize)
+  object-read =
+      ap (λ s. s .object) (slot-seen l i lt (omega arith))
+      ∙ ap (λ (k : ℕ). objectOf k (part (part l (slotPlace i) slotSize) objectPlace objectSize)) (part-at l (slotPlace i) slotSize 1 (omega arith))
+      ∙ ap (objectOf (at l (slotPlace i + kindPlace))) (object-part l (slotPlace i))
+
 -- numbers that are a record: as many as there have to be, with at most 256 objects
 module _ (l : List ℕ) (r : isRecord l ≡ true) where
   pub record-length : length l ≡ recordSize
@@ -75,16 +86,11 @@ module _ (l : List ℕ) (r : isRecord l ≡ true) where
   pub record-count : at l countPlace ≤ 256
   record-count = parts l r .few
 
-  -- slot i of an object
-  module _ (i : ℕ) (lt : i < at l countPlace) where
-    pub handle-seen : handleAt (view l .objects) i ≡ at l (slotPlace i)
-    handle-seen = ap (λ s. s .handle) (slot-seen l i lt (omega (arith, record-count))) ∙ part-at l (slotPlace i) slotSize 0 (omega arith) ∙ ap (at l) (omega arith)
+  pub handle-seen : (i : ℕ) → i < at l countPlace → handleAt (view l .objects) i ≡ at l (slotPlace i)
+  handle-seen = handle-read l record-count
 
-    pub object-seen : objectAt (view l) i ≡ objectOf (at l (slotPlace i + kindPlace)) (part l (slotPlace i + objectPlace) objectSize)
-    object-seen =
-        ap (λ s. s .object) (slot-seen l i lt (omega (arith, record-count)))
-        ∙ ap (λ (k : ℕ). objectOf k (part (part l (slotPlace i) slotSize) objectPlace objectSize)) (part-at l (slotPlace i) slotSize 1 (omega arith))
-        ∙ ap (objectOf (at l (slotPlace i + kindPlace))) (object-part l (slotPlace i))
+  pub object-seen : (i : ℕ) → i < at l countPlace → objectAt (view l) i ≡ objectOf (at l (slotPlace i + kindPlace)) (part l (slotPlace i + objectPlace) objectSize)
+  object-seen = object-read l record-count
 
 -- an object by its kind's number
 module _ (k : ℕ) (d : List ℕ) where

@@ -1,7 +1,7 @@
 -- Laws of the slots among the numbers of a record, as a loop over them lends them. Assumes nothing.
 use mathlib.Core.List.{List, _++_}
-use mathlib.Core.Path.{_≡_, _∙_, ap, subst}
-use Prim.Native.Nat.{ℕ, _+_, _-_, _≤_, _<_}
+use mathlib.Core.Path.{_≡_, _∙_, ap}
+use Prim.Native.Nat.{ℕ, _+_, _-_, _<_}
 use native.Mathlib.Omega.{arith}
 use lib.ListN.{length, take, drop}
 use lib.Seq.{drop-drop}
@@ -27,7 +27,3 @@ lent-long l i long h = ap length (lent-slot l i) ∙ length-part l (slotPlace i)
 
 pub slot-back : (l : List ℕ) (i : ℕ) (x : List ℕ) → slotBack l i x ≡ withPart l (slotPlace i) slotSize x
 slot-back l i x = rw (slot-size i, drop-drop slotSize (slotPlace i) l)
-
--- what held up to i holds at the end
-pub reached : (Q : ℕ → Type 0) {i n : ℕ} → i ≤ n → n ≤ i → Q i → Q n
-reached Q {i} {n} a b q = let e : i ≡ n = omega arith in subst Q e q

@@ -2,31 +2,20 @@
 use mathlib.Core.Bool.{true, false, not}
 use mathlib.Core.List.{List}
 use mathlib.Core.Path.{_≡_, sym, _∙_, ap}
-use Prim.Native.Nat.{ℕ, _+_, _-_, _*_, _<_, _≤_}
+use Prim.Native.Nat.{ℕ, _+_, _-_, _<_}
 use native.Mathlib.Omega.{arith}
 use lib.Dec.{eqb}
 use borrow.Author.Tests.{eq-eqb}
 use Rattle.laws.proofs.Test.{all-fails}
 use Rattle.gdi.specs.Lookup.{handleAt}
-use Rattle.numbers.specs.Layout.{slotSize, countPlace, slotPlace}
+use Rattle.numbers.specs.Layout.{countPlace, slotPlace}
 use Rattle.numbers.specs.Block.{at}
 use Rattle.numbers.specs.View.{view, isRecord}
-use Rattle.numbers.proofs.Seen.{count-seen, handle-seen}
-use Rattle.sound.specs.Sound.{absent, ascending}
-use Rattle.sound.proofs.Handles.{absent-more, rises, falls}
+use Rattle.numbers.proofs.Seen.{handle-seen}
+use Rattle.sound.specs.Sound.{absent}
+use Rattle.sound.proofs.Handles.{absent-more}
 
 module _ (l : List ℕ) (r : isRecord l ≡ true) where
-  -- the handles of slot i and the one before it
-  module _ (i : ℕ) (lt : i < at l countPlace) (some : 1 ≤ i) where
-    before-seen : handleAt (view l .objects) (i - 1) ≡ at l (slotPlace i - slotSize)
-    before-seen = handle-seen l r (i - 1) (omega arith) ∙ ap (at l) (omega arith)
-
-    pub rises-seen : ascending (view l .objects) i ≡ true → at l (slotPlace i - slotSize) < at l (slotPlace i) → ascending (view l .objects) (i + 1) ≡ true
-    rises-seen a h = rises (view l .objects) i some a (omega (arith, before-seen, handle-seen l r i lt))
-
-    pub falls-seen : at l (slotPlace i) ≤ at l (slotPlace i - slotSize) → false ≡ ascending (view l .objects) (view l .count)
-    falls-seen h = sym (falls (view l .objects) i some (view l .count) (rw (count-seen l) lt) (omega (arith, before-seen, handle-seen l r i lt)))
-
   -- slots j and k, j before k
   module _ (j k : ℕ) (below : j < k) (lt : k < at l countPlace) where
     pub same-seen : at l (slotPlace j) ≡ at l (slotPlace k) → false ≡ absent (view l .objects) k (handleAt (view l .objects) k)

@@ -1,11 +1,12 @@
 -- Laws of the refusals that every call shares: when there is none, and its cases. Assumes nothing.
-use mathlib.Core.Bool.{Bool, true, false, cond, _&&_}
+use mathlib.Core.Bool.{Bool, true, false, cond, _&&_, true≢false}
 use mathlib.Core.List.{List}
 use mathlib.Core.Path.{_≡_, refl, sym, _∙_}
 use Prim.Native.Nat.{ℕ}
 use native.Mathlib.Omega.{arith}
 use lib.Dec.{eqb}
 use borrow.Author.Tests.{eqb-true, eq-eqb, ne-eqb}
+use Rattle.laws.proofs.Test.{both}
 use Rattle.gdi.specs.declared.GdiState.{GdiState}
 use Rattle.sound.specs.Sound.{isSound}
 use Rattle.numbers.specs.View.{view, isRecord}
@@ -47,11 +48,17 @@ looks {b} {n} {k} r = sym (none-other b n k (r .sound) (r .panel) (r .store))
 
 -- the same of a record lent as numbers
 module _ (l : List ℕ) (n k : ℕ) where
-  pub of-record : {no₀ : ℕ} → isRecord l ≡ true → no₀ ≡ commonRefusal (view l) n k → no₀ ≡ commonRefusalOn l n k
-  of-record r e = rw r e
+  pub no-sound-record : (isRecord l && isSound (view l)) ≡ false → 9 ≡ commonRefusalOn l n k
+  unfolding commonRefusal
+  no-sound-record e = by (isRecord l) (isSound (view l)) e
+    where
+      by : (r s : Bool) → (r && s) ≡ false → _≡_ {A = ℕ} 9 (cond r (cond s (cond (eqb n (view l .«panel_len») && eqb k (view l .«store_len»)) 0 8) 9) 9)
+      by true true e = absurd (true≢false e)
+      by true false e = refl
+      by false s e = refl
 
-  pub no-record : isRecord l ≡ false → 9 ≡ commonRefusalOn l n k
-  no-record r = rw r
+  pub of-record : {no₀ : ℕ} → (isRecord l && isSound (view l)) ≡ true → (isSound (view l) ≡ true → no₀ ≡ commonRefusal (view l) n k) → no₀ ≡ commonRefusalOn l n k
+  of-record e f = let p = both (isRecord l) (isSound (view l)) e in rw (p .0) (f (p .1))
 
   pub lent : (no₀ : ℕ) → no₀ ≡ commonRefusalOn l n k → no₀ ≡ 0 → Lent l n k
   lent no₀ e z = by (isRecord l) refl e

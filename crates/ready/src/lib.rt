@@ -1,13 +1,13 @@
 // The record check of a record lent as numbers, and the refusals that every call after open shares.
 ghost use mathlib.Core.Path.{_≡_};
-ghost use mathlib.Core.Bool.{true};
+ghost use mathlib.Core.Bool.{true, _&&_};
 ghost use Prim.Native.Nat.{_<_};
 ghost use Rattle.gdi.specs.Lookup.{handleAt};
 ghost use Rattle.numbers.specs.Layout.{countPlace};
 ghost use Rattle.numbers.specs.Block.{at};
 ghost use Rattle.numbers.specs.View.{view, isRecord};
-ghost use Rattle.sound.specs.Sound.{absent, distinct, ascending, isSound};
-ghost use Rattle.ready.specs.Ready.{commonRefusal, commonRefusalOn, panelRefusalOn};
+ghost use Rattle.sound.specs.Sound.{absent, distinct, isSound};
+ghost use Rattle.ready.specs.Ready.{commonRefusalOn, panelRefusalOn};
 use numbers::COUNT;
 use numbers::HEIGHT;
 use numbers::PANEL_LEN;
@@ -23,11 +23,13 @@ pub const UNSOUND_RECORD: u32 = 9;
 // The refusal of a memory whose length is not the record's.
 pub const OTHER_LENGTH: u32 = 8;
 
-// Whether the record is sound.
-pub fn is_sound(l: &[u32]) -> bool
-    requires { ⌜ isRecord (now l) ≡ true ⌝ }
-    ensures { λ r. ⌜ r ≡ isSound (view (now (l .entry))) ⌝ }
+// Whether the numbers are a sound record.
+fn is_sound(l: &[u32]) -> bool
+    ensures { λ r. ⌜ r ≡ (isRecord (now (l .entry)) && isSound (view (now (l .entry)))) ⌝ }
 {
+    if !well_formed::is_head(l) {
+        return false;
+    }
     let panel_len = l[PANEL_LEN] as usize;
     if panel_len > MAX_MEMORY {
         return false;
@@ -47,31 +49,15 @@ pub fn is_sound(l: &[u32]) -> bool
     if 2 * (w * h) > panel_len {
         return false;
     }
-    let end = sound::pixels_end(l);
+    let s = sound::scan_slots(l);
+    let end = s.end;
     if end == 0 {
         return false;
     }
-    if !handles_differ(l) {
+    if !handles_differ(l, s.ascending) {
         return false;
     }
     end <= store_len
-}
-
-// Whether each handle is above the one before it, as it is until handles have gone round.
-fn is_ascending(l: &[u32]) -> bool
-    requires { ⌜ isRecord (now l) ≡ true ⌝ }
-    ensures { λ r. ⌜ r ≡ ascending (view (now (l .entry)) .objects) (view (now (l .entry)) .count) ⌝ }
-{
-    let n = l[COUNT] as usize;
-    let mut i: usize = 1;
-    while i < n {
-        let p = SLOTS + SLOT * i;
-        if l[p] <= l[p - SLOT] {
-            return false;
-        }
-        i += 1;
-    }
-    true
 }
 
 // Whether none of the first k handles is the k-th.
@@ -108,11 +94,12 @@ fn all_pairs_differ(l: &[u32]) -> bool
 }
 
 // Whether the handles differ: all pairs are looked at only where the handles do not ascend.
-fn handles_differ(l: &[u32]) -> bool
+fn handles_differ(l: &[u32], ascending: bool) -> bool
     requires { ⌜ isRecord (now l) ≡ true ⌝ }
+    requires { ⌜ (ascending ≡ true → distinct (view (now l) .objects) (view (now l) .count) ≡ true) ⌝ }
     ensures { λ r. ⌜ r ≡ distinct (view (now (l .entry)) .objects) (view (now (l .entry)) .count) ⌝ }
 {
-    if is_ascending(l) {
+    if ascending {
         return true;
     }
     all_pairs_differ(l)
@@ -122,35 +109,27 @@ fn handles_differ(l: &[u32]) -> bool
 pub fn common_refusal(l: &[u32], panel_len: usize, store_len: usize) -> u32
     ensures { λ r. ⌜ r ≡ commonRefusalOn (now (l .entry)) «panel_len» «store_len» ⌝ }
 {
-    if well_formed::is_record(l) {
-        return record_refusal(l, panel_len, store_len);
+    if !is_sound(l) {
+        return UNSOUND_RECORD;
     }
-    UNSOUND_RECORD
+    if panel_len != l[PANEL_LEN] as usize {
+        return OTHER_LENGTH;
+    }
+    if store_len != l[STORE_LEN] as usize {
+        return OTHER_LENGTH;
+    }
+    0
 }
 
 // The same where only the panel memory is lent: the store's length is the record's own.
 pub fn panel_refusal(l: &[u32], panel_len: usize) -> u32
     ensures { λ r. ⌜ r ≡ panelRefusalOn (now (l .entry)) «panel_len» ⌝ }
 {
-    if well_formed::is_record(l) {
-        return record_refusal(l, panel_len, l[STORE_LEN] as usize);
+    if !is_sound(l) {
+        return UNSOUND_RECORD;
     }
-    UNSOUND_RECORD
-}
-
-// The same of numbers that are a record.
-fn record_refusal(l: &[u32], panel_len: usize, store_len: usize) -> u32
-    requires { ⌜ isRecord (now l) ≡ true ⌝ }
-    ensures { λ r. ⌜ r ≡ commonRefusal (view (now (l .entry))) «panel_len» «store_len» ⌝ }
-{
-    if is_sound(l) {
-        if panel_len != l[PANEL_LEN] as usize {
-            return OTHER_LENGTH;
-        }
-        if store_len != l[STORE_LEN] as usize {
-            return OTHER_LENGTH;
-        }
-        return 0;
+    if panel_len != l[PANEL_LEN] as usize {
+        return OTHER_LENGTH;
     }
-    UNSOUND_RECORD
+    0
 }

@@ -42,9 +42,6 @@ module _ (b : GdiState) (fit : slotsFit b ≡ true) (i : ℕ) (lt : i < b .count
   pub fits-below : objectFits (objectAt b i) ≡ true
   fits-below = object-of (slotAt b i) (each (b .count) (λ k. slotFits (slotAt b k)) fit i lt)
 
-  pub small : {x : ℕ} → x ≡ bytesOf (objectAt b i) → x ≤ 33554432
-  small e = rw e (bytes-le (objectAt b i) fits-below)
-
 -- the start of the first object, and of the next
 pub start-none : (b : GdiState) → 2 ≡ startOf b 0
 start-none b = rw (sum-none (λ i. bytesOf (objectAt b i)))

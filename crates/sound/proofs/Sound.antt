@@ -1,5 +1,5 @@
 -- What a sound record has, part by part. Assumes nothing.
-use mathlib.Core.Bool.{Bool, true, false, not, cond, _&&_, false≢true}
+use mathlib.Core.Bool.{Bool, true, false, not, _&&_, false≢true}
 use mathlib.Core.List.{List}
 use mathlib.Core.Path.{_≡_, refl, sym, _∙_}
 use Prim.Native.Nat.{ℕ, _+_, _<_, _≤_}
@@ -66,26 +66,6 @@ unsound b f = by (isSound b) refl
     by : (t : Bool) → isSound b ≡ t → false ≡ t
     by true e = absurd (f (parts b e))
     by false e = refl
-
--- where the pixels end, with 0 for an object that does not fit
-abbrev pub EndOf : GdiState → ℕ → Type 0
-EndOf b x = x ≡ cond (slotsFit b) (used b) 0
-
-pub no-end : (b : GdiState) → false ≡ slotsFit b → EndOf b 0
-no-end b e = rw (sym e)
-
-pub end-used : (b : GdiState) {x : ℕ} → true ≡ slotsFit b → x ≡ used b → EndOf b x
-end-used b e f = rw (sym e) f
-
-pub ended : (b : GdiState) {x : ℕ} → EndOf b x → (x ≡ 0 → ⊥) → (slotsFit b ≡ true) × (x ≡ used b)
-ended b {x} e some = by (slotsFit b) refl
-  where
-    by : (t : Bool) → slotsFit b ≡ t → (slotsFit b ≡ true) × (x ≡ used b)
-    by true f = (f, rw f at e)
-    by false f = absurd (some (rw f at e))
-
-pub not-ended : (b : GdiState) {x : ℕ} → EndOf b x → x ≡ 0 → slotsFit b ≡ true → ⊥
-not-ended b e none f = omega (arith, none, rw f at e)
 
 -- the objects
 pub fits-at : {b : GdiState} → Sound b → (i : ℕ) → i < b .count → objectFits (objectAt b i) ≡ true

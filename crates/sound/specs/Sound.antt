@@ -1,8 +1,8 @@
 -- When a bench record is sound.
 use mathlib.Core.Bool.{Bool, true, false, not, _&&_}
 use mathlib.Core.List.{List}
-use Prim.Native.Nat.{ℕ, suc, _+_, _-_}
-use lib.Dec.{eqb, leb, ltb}
+use Prim.Native.Nat.{ℕ, _+_}
+use lib.Dec.{eqb, leb}
 use Rattle.laws.specs.Test.{allBelow}
 use Rattle.laws.specs.Sum.{sumBelow}
 use Rattle.surface.specs.Refusal.{side}
@@ -46,10 +46,6 @@ absent l n h = allBelow n (λ j. not (eqb (handleAt l j) h))
 -- the handles of the first n slots differ: none before a slot has its handle
 abbrev pub distinct : List Slot → ℕ → Bool
 distinct l n = allBelow n (λ k. absent l k (handleAt l k))
-
--- each of the first n handles is above the one before it, so that they differ: the quick test
-abbrev pub ascending : List Slot → ℕ → Bool
-ascending l n = allBelow (n - 1) (λ k. ltb (handleAt l k) (handleAt l (suc k)))
 
 -- the bytes of the pixels of the first n created objects, with the stock bitmap's 2
 abbrev pub startOf : GdiState → ℕ → ℕ

@@ -1,16 +1,17 @@
 // What the objects of a record lent as numbers have to be, and where their pixels begin.
 ghost use mathlib.Core.Path.{_≡_};
-ghost use mathlib.Core.Bool.{true, not, cond, _&&_};
+ghost use mathlib.Core.Bool.{true, false, not, _&&_};
 ghost use Prim.Native.Nat.{_+_, _*_, _≤_};
-ghost use lib.Dec.{eqb};
+ghost use lib.Dec.{eqb, ltb};
 ghost use lib.ListN.{length};
 ghost use Rattle.words.specs.Parts.{part};
 ghost use Rattle.gdi.specs.Record.{bytesOf};
 ghost use Rattle.gdi.specs.Stock.{isStock};
-ghost use Rattle.numbers.specs.Layout.{objectSize, slotSize, countPlace, kindPlace, objectPlace};
+ghost use Rattle.numbers.specs.Layout.{objectSize, slotSize, recordSize, countPlace, kindPlace, objectPlace};
 ghost use Rattle.numbers.specs.Block.{at, objectOf};
 ghost use Rattle.numbers.specs.View.{view, isRecord};
-ghost use Rattle.sound.specs.Sound.{objectFits, slotsFit, startOf, used};
+ghost use Rattle.sound.specs.Sound.{objectFits, slotsFit, startOf};
+ghost use Rattle.sound.specs.Scan.{Scanned};
 use gdi::GDI_HANDLE_BASE;
 use gdi::GdiObject;
 use gdi::STOCK_WHITE_BRUSH;
@@ -89,27 +90,62 @@ fn handle_fits(h: u32) -> bool
     !gdi::is_stock_handle(h)
 }
 
-// Where the pixels of the created objects end in the store, behind those of the stock bitmap; 0 if an object is not what it has to
-// be.
-pub fn pixels_end(l: &[u32]) -> usize
-    requires { ⌜ isRecord (now l) ≡ true ⌝ }
-    ensures { λ r. ⌜ r ≡ cond (slotsFit (view (now (l .entry)))) (used (view (now (l .entry)))) 0 ⌝ }
+// What one pass over the slots finds: where the pixels of the created objects end in the store, behind those of the stock bitmap,
+// or 0 if a slot is none or its object is not what it has to be; and whether each handle is above the one before it, as it is
+// until handles go round, so that they differ.
+pub struct Scan {
+    pub end: usize,
+    pub ascending: bool,
+}
+
+fn unfit() -> Scan
+    ensures { λ r. ⌜ r ≡ record { end = 0; ascending = false } ⌝ }
+{
+    Scan {
+        end: 0,
+        ascending: false,
+    }
+}
+
+// Whether handles that ascended as far as last go on so with h.
+fn goes_on(ascending: bool, last: u32, h: u32) -> bool
+    ensures { λ r. ⌜ r ≡ (ltb last h && ascending) ⌝ }
+{
+    if last < h {
+        return ascending;
+    }
+    false
+}
+
+// Looks at every slot.
+pub fn scan_slots(l: &[u32]) -> Scan
+    requires { ⌜ length (now l) ≡ recordSize ⌝ }
+    requires { ⌜ at (now l) countPlace ≤ 256 ⌝ }
+    ensures { λ r. ⌜ Scanned (now (l .entry)) r ⌝ }
 {
     let n = l[COUNT] as usize;
     let mut i: usize = 0;
     let mut end: usize = 2;
+    let mut last: u32 = 0;
+    let mut ascending = true;
     while i < n {
         let p = SLOTS + SLOT * i;
+        let e = p + SLOT;
+        if !well_formed::is_slot(&l[p..e]) {
+            return unfit();
+        }
         if !handle_fits(l[p]) {
-            return 0;
+            return unfit();
         }
         if !object_fits(l, p) {
-            return 0;
+            return unfit();
         }
         end += bytes_of(l, p);
+        ascending = goes_on(ascending, last, l[p]);
+        last = l[p];
         i += 1;
     }
-    end
+    Scan { end, ascending }
 }
 
 // Where the pixels of object n begin in the store: behind those of the stock bitmap and of the objects before it.

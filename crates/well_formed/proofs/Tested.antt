@@ -1,21 +1,20 @@
 -- How the tests of a record's numbers come out. Assumes nothing.
 use mathlib.Core.Bool.{Bool, true, false, _&&_}
 use mathlib.Core.List.{List}
-use mathlib.Core.Path.{_≡_, refl, sym, _∙_, ap}
+use mathlib.Core.Path.{_≡_, refl}
 use Prim.Native.Nat.{ℕ, zero, suc, _+_, _-_, _≤_, _<_}
 use native.Mathlib.Nat.{sub-self, add-zero}
 use native.Mathlib.Omega.{arith}
 use lib.Dec.{eqb, leb}
 use lib.ListN.{length}
-use borrow.Author.Tests.{lt-leb, le-leb, eq-eqb, ne-eqb}
+use borrow.Author.Tests.{lt-leb, le-leb, leb-true, eq-eqb, eqb-true, ne-eqb}
 use Rattle.laws.specs.Test.{allBelow}
-use Rattle.laws.proofs.Test.{and-false, all-suc, all-more, all-fails}
+use Rattle.laws.proofs.Test.{both, and-false, all-suc}
 use Rattle.words.specs.Parts.{part}
-use Rattle.numbers.specs.Layout.{dcSize, objectSize, slotSize, recordSize, stockDirtyPlace, countPlace, screenPlace, slotPlace, surfaceIn, presentIn, bitmapIn, bkTransparentIn, bitmapDirtyIn, bitmapSize}
-use Rattle.numbers.specs.Block.{at, isFlag, isDc, zerosFrom, isObject, isSlot}
+use Rattle.numbers.specs.Layout.{dcSize, objectSize, recordSize, stockDirtyPlace, countPlace, screenPlace, surfaceIn, presentIn, bitmapIn, bkTransparentIn, bitmapDirtyIn, bitmapSize}
+use Rattle.numbers.specs.Block.{at, isFlag, isDc, zerosFrom, isObject}
 use Rattle.numbers.specs.View.{isRecord}
-use Rattle.numbers.proofs.Slots.{lentSlot, lent-slot}
-use Rattle.well_formed.specs.Slots.{areSlots}
+use Rattle.well_formed.specs.Head.{isHead, areSlots}
 
 -- a DC
 module _ (l : List ℕ) where
@@ -73,27 +72,47 @@ module _ (l : List ℕ) (k : ℕ) where
   pub zeros-end : (i s : ℕ) → i ≤ objectSize → objectSize ≤ i → eqb s 0 ≡ zerosTo i → eqb s 0 ≡ zerosFrom l k
   zeros-end i s le ge h = let e : i ≡ objectSize = omega arith in rw e at h
 
--- the test of one slot
-pub slot-passed : (l : List ℕ) (i : ℕ) {t : Bool} → areSlots l i ≡ true → t ≡ isSlot (lentSlot l i) → t ≡ true → areSlots l (i + 1) ≡ true
-slot-passed l i h e p = all-more i (λ k. isSlot (part l (slotPlace k) slotSize)) h (ap isSlot (sym (lent-slot l i)) ∙ sym e ∙ p)
+-- the last of five tests, taken out
+and-last : (a b c d e : Bool) → (a && (b && (c && (d && e)))) ≡ ((a && (b && (c && d))) && e)
+and-last false b c d e = refl
+and-last true false c d e = refl
+and-last true true false d e = refl
+and-last true true true d e = refl
 
-pub slot-failed : (l : List ℕ) (i n : ℕ) {t : Bool} → i < n → t ≡ isSlot (lentSlot l i) → t ≡ false → false ≡ areSlots l n
-slot-failed l i n h e p = sym (all-fails i n (λ k. isSlot (part l (slotPlace k) slotSize)) h (ap isSlot (sym (lent-slot l i)) ∙ sym e ∙ p))
-
--- numbers that are no record
+-- the head
 module _ (l : List ℕ) where
-  pub too-short : (length l ≡ recordSize → ⊥) → false ≡ isRecord l
-  unfolding isRecord
+  pub too-short : (length l ≡ recordSize → ⊥) → false ≡ isHead l
+  unfolding isHead
   too-short n = rw (ne-eqb (length l) recordSize n)
 
-  pub no-flag : 1 < at l stockDirtyPlace → false ≡ isRecord l
-  unfolding isRecord
+  pub no-flag : 1 < at l stockDirtyPlace → false ≡ isHead l
+  unfolding isHead
   no-flag h = rw (lt-leb (at l stockDirtyPlace) 1 h, and-false (eqb (length l) recordSize))
 
-  pub too-many : 256 < at l countPlace → false ≡ isRecord l
-  unfolding isRecord
+  pub too-many : 256 < at l countPlace → false ≡ isHead l
+  unfolding isHead
   too-many h = rw (lt-leb (at l countPlace) 256 h, and-false (isFlag (at l stockDirtyPlace)), and-false (eqb (length l) recordSize))
 
-  pub no-screen : isDc (part l screenPlace dcSize) ≡ false → false ≡ isRecord l
-  unfolding isRecord
-  no-screen h = rw (h, and-false (leb (at l countPlace) 256), and-false (isFlag (at l stockDirtyPlace)), and-false (eqb (length l) recordSize))
+  pub by-screen : length l ≡ recordSize → at l stockDirtyPlace ≤ 1 → at l countPlace ≤ 256 → isDc (part l screenPlace dcSize) ≡ isHead l
+  unfolding isHead
+  by-screen a b c = rw (eq-eqb (length l) recordSize a, le-leb (at l stockDirtyPlace) 1 b, le-leb (at l countPlace) 256 c)
+
+  -- numbers are a record if the head is in order and each slot is one
+  pub head-and-slots : isRecord l ≡ (isHead l && areSlots l (at l countPlace))
+  unfolding isHead isRecord
+  head-and-slots =
+      and-last (eqb (length l) recordSize) (isFlag (at l stockDirtyPlace)) (leb (at l countPlace) 256) (isDc (part l screenPlace dcSize))
+      (areSlots l (at l countPlace))
+
+  pub head-long : isHead l ≡ true → length l ≡ recordSize
+  unfolding isHead
+  head-long h =
+      eqb-true (length l) recordSize
+      (both (eqb (length l) recordSize) (isFlag (at l stockDirtyPlace) && (leb (at l countPlace) 256 && isDc (part l screenPlace dcSize))) h .0)
+
+  pub head-few : isHead l ≡ true → at l countPlace ≤ 256
+  unfolding isHead
+  head-few h =
+      let a = both (eqb (length l) recordSize) (isFlag (at l stockDirtyPlace) && (leb (at l countPlace) 256 && isDc (part l screenPlace dcSize))) h in
+      let b = both (isFlag (at l stockDirtyPlace)) (leb (at l countPlace) 256 && isDc (part l screenPlace dcSize)) (a .1) in
+      leb-true (at l countPlace) 256 (both (leb (at l countPlace) 256) (isDc (part l screenPlace dcSize)) (b .1) .0)

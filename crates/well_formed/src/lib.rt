@@ -1,11 +1,10 @@
-// Which flat numbers are a bench record.
+// Which flat numbers are a bench record: the head and each slot.
 ghost use mathlib.Core.Path.{_≡_};
 ghost use Prim.Native.Nat.{_≤_};
 ghost use lib.ListN.{length};
-ghost use Rattle.numbers.specs.Layout.{dcSize, objectSize, slotSize, recordSize};
+ghost use Rattle.numbers.specs.Layout.{dcSize, objectSize, slotSize};
 ghost use Rattle.numbers.specs.Block.{isDc, isObject, zerosFrom, isSlot};
-ghost use Rattle.numbers.specs.View.{isRecord};
-ghost use Rattle.well_formed.specs.Slots.{areSlots};
+ghost use Rattle.well_formed.specs.Head.{isHead};
 use numbers::BITMAP;
 use numbers::BITMAP_PRESENT;
 use numbers::BITMAP_SIZE;
@@ -25,9 +24,9 @@ use numbers::SLOTS;
 use numbers::STOCK_DIRTY;
 use numbers::SURFACE;
 
-// Whether the numbers are a record.
-pub fn is_record(l: &[u32]) -> bool
-    ensures { λ r. ⌜ r ≡ isRecord (now (l .entry)) ⌝ }
+// Whether what stands before the slots is in order.
+pub fn is_head(l: &[u32]) -> bool
+    ensures { λ r. ⌜ r ≡ isHead (now (l .entry)) ⌝ }
 {
     if l.len() != RECORD {
         return false;
@@ -38,31 +37,11 @@ pub fn is_record(l: &[u32]) -> bool
     if l[COUNT] > 256 {
         return false;
     }
-    if !is_dc(&l[SCREEN..SLOTS]) {
-        return false;
-    }
-    are_slots(l, l[COUNT] as usize)
+    is_dc(&l[SCREEN..SLOTS])
 }
 
-// Whether each of the first n slots is one.
-fn are_slots(l: &[u32], n: usize) -> bool
-    requires { ⌜ length (now l) ≡ recordSize ⌝ }
-    requires { ⌜ n ≤ 256 ⌝ }
-    ensures { λ r. ⌜ r ≡ areSlots (now (l .entry)) n ⌝ }
-{
-    let mut i: usize = 0;
-    while i < n {
-        let p = SLOTS + SLOT * i;
-        let e = p + SLOT;
-        if !is_slot(&l[p..e]) {
-            return false;
-        }
-        i += 1;
-    }
-    true
-}
-
-fn is_slot(l: &[u32]) -> bool
+// Whether the numbers are a slot.
+pub fn is_slot(l: &[u32]) -> bool
     requires { ⌜ slotSize ≤ length (now l) ⌝ }
     ensures { λ r. ⌜ r ≡ isSlot (now (l .entry)) ⌝ }
 {

@@ -1,44 +1,48 @@
 -- `ready::panel_refusal` meets its contract. Assumes nothing.
-use mathlib.Core.Path.{sym, _∙_, ap}
+use mathlib.Core.Path.{sym, _∙_, refl}
 use native.Mathlib.Omega.{arith}
-use Rattle.numbers.specs.Layout.{storeLenPlace}
-use Rattle.numbers.specs.View.{view}
-use Rattle.numbers.proofs.Seen.{record-length, store-len-seen}
-use Rattle.ready.specs.Ready.{commonRefusal}
-use Rattle.ready.proofs.Ready.{of-record, no-record}
+use borrow.Author.Tests.{not-true, not-false}
+use Rattle.laws.proofs.Test.{both}
+use Rattle.numbers.specs.Layout.{panelLenPlace}
+use Rattle.numbers.specs.View.{view, isRecord}
+use Rattle.numbers.proofs.Seen.{record-length, panel-len-seen}
+use Rattle.sound.specs.Sound.{isSound}
+use Rattle.ready.proofs.Ready.{no-sound-record, of-record, other-panel, none-other}
 use borrow.Author.Needs.{needs}
 use Rattle.ready.proofs.panel_refusal.Statement.{statement}
 use Rattle.ready.proofs.panel_refusal.Tie as tie
 
-is-record-requires : tie.Need-is-record-requires
-is-record-requires c κs = search needs
-
-shared-slice-read-record-refusal : tie.Need-shared-slice-read-record-refusal
-shared-slice-read-record-refusal c = omega (arith, record-length _ (sym (c .before .before .is-record .ensures) ∙ c .before .if1 .taken))
-
-cast-record-refusal : tie.Need-cast-record-refusal
-cast-record-refusal c = omega (arith, c .shared-slice-known2 .given storeLenPlace)
-
-record-refusal-requires : tie.Need-record-refusal-requires
-record-refusal-requires c κs = sym (c .before .before .is-record .ensures) ∙ c .before .if1 .taken
+is-sound-requires : tie.Need-is-sound-requires
+is-sound-requires c κs = search needs
 
 returns : tie.Need-returns
-returns c =
-    let i = c .before .before in
+returns c = no-sound-record _ _ _ (sym (c .before .is-sound .ensures) ∙ not-true _ (c .if1 .taken))
+
+shared-slice-read-if2 : tie.Need-shared-slice-read-if2
+shared-slice-read-if2 c =
+    let i = c .before in
     let a = i .before in
     let s = a .before .before in
-    of-record _ _ _ (sym (a .is-record .ensures) ∙ i .if1 .taken) (c .record-refusal .ensures ∙ sym (ap (commonRefusal (view (s .args .l .now)) (s .args .panel-len)) (store-len-seen (s .args .l .now))))
+    omega (arith, record-length (s .args .l .now) (both (isRecord (s .args .l .now)) (isSound (view (s .args .l .now))) (sym (a .is-sound .ensures) ∙ not-false _ (i .if1 .left)) .0))
+
+cast-if2 : tie.Need-cast-if2
+cast-if2 c = omega (arith, c .shared-slice-known2 .given panelLenPlace)
 
 returns-2 : tie.Need-returns-2
-returns-2 c = no-record _ _ _ (sym (c .before .is-record .ensures) ∙ c .if1 .left)
+returns-2 c =
+    let i = c .before .before in
+    let a = i .before in
+    let b = a .before .before in
+    of-record (b .args .l .now) _ _ (sym (a .is-sound .ensures) ∙ not-false _ (i .if1 .left)) (λ s. other-panel _ _ _ s (λ e. c .if2 .taken (e ∙ panel-len-seen (b .args .l .now))))
+
+returns-3 : tie.Need-returns-3
+returns-3 c =
+    let i = c .before .before in
+    let a = i .before in
+    let b = a .before .before in
+    of-record (b .args .l .now) _ _ (sym (a .is-sound .ensures) ∙ not-false _ (i .if1 .left)) (λ s. none-other _ _ _ s (c .if2 .left ∙ sym (panel-len-seen (b .args .l .now))) refl)
 
 pub panel-refusal-spec : {M : Type 1} → statement M
 panel-refusal-spec =
     tie.close
-    (tie.spec
-    is-record-requires
-    shared-slice-read-record-refusal
-    cast-record-refusal
-    record-refusal-requires
-    returns
-    returns-2)
+    (tie.spec is-sound-requires returns shared-slice-read-if2 cast-if2 returns-2 returns-3)

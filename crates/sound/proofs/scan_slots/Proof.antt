@@ -1,0 +1,196 @@
+-- `sound::scan_slots` meets its contract. Assumes nothing.
+use mathlib.Core.Path.{_≡_, sym, _∙_}
+use Prim.Native.Nat.{_≤_, _-_}
+use native.Mathlib.Omega.{arith}
+use lib.ListN.{length}
+use denote.Ref.{now}
+use borrow.Author.Tests.{not-true, not-false}
+use borrow.Author.Needs.{needs}
+use Rattle.numbers.specs.Layout.{recordSize, countPlace}
+use Rattle.numbers.proofs.Slots.{lent-long}
+use Rattle.sound.proofs.Slots.{Passed, none-passed, pass-more, all-passed, nothing-passed, no-slot, handle-unfit, object-unfit, bytes-few}
+use Rattle.sound.proofs.scan_slots.Statement.{statement}
+use Rattle.sound.proofs.scan_slots.Tie as tie
+
+abbrev Inv-loop : tie.InvT-loop
+Inv-loop l n i₀ end₀ last₀ ascending₀ i end last ascending =
+    (i ≤ n) × ((n ≤ 256) × ((length l ≡ recordSize) × Passed l i end last ascending))
+
+abbrev μ-loop : tie.MeasureT-loop
+μ-loop l n i₀ end₀ last₀ ascending₀ i end last ascending = n - i
+
+shared-slice-read-n : tie.Need-shared-slice-read-n Inv-loop μ-loop
+shared-slice-read-n c = omega (arith, c .before .before .pre .0)
+
+cast-n : tie.Need-cast-n Inv-loop μ-loop
+cast-n c = omega (arith, c .shared-slice-known2 .given countPlace)
+
+loop-holds : tie.Need-loop-holds Inv-loop μ-loop
+loop-holds c = (omega arith, (c .before .before .pre .1, (c .before .before .pre .0, none-passed (c .before .before .args .l .now))))
+
+mul-p : tie.Need-mul-p Inv-loop μ-loop
+mul-p c = omega arith
+
+add-p : tie.Need-add-p Inv-loop μ-loop
+add-p c = omega arith
+
+add-e : tie.Need-add-e Inv-loop μ-loop
+add-e c = omega arith
+
+mul-is-slot : tie.Need-mul-is-slot Inv-loop μ-loop
+mul-is-slot c = omega arith
+
+sub-is-slot : tie.Need-sub-is-slot Inv-loop μ-loop
+sub-is-slot c = omega arith
+
+part-is-slot-start : tie.Need-part-is-slot-start Inv-loop μ-loop
+part-is-slot-start c = omega arith
+
+part-is-slot-end : tie.Need-part-is-slot-end Inv-loop μ-loop
+part-is-slot-end c = omega arith
+
+is-slot-requires : tie.Need-is-slot-requires Inv-loop μ-loop
+is-slot-requires c κs =
+    let l = c .before .before in
+    let s = l .before .before .before in
+    omega (arith, lent-long (now (s .args .l)) (l .loop .i) (s .pre .0) (omega arith))
+
+unfit-requires : tie.Need-unfit-requires Inv-loop μ-loop
+unfit-requires c κs = search needs
+
+returns : tie.Need-returns Inv-loop μ-loop
+returns c =
+    let i = c .before in
+    let a = i .before in
+    let l = a .before .before in
+    let b = l .before in
+    let s = b .before .before .before in
+    nothing-passed (s .args .l .now) (c .unfit .ensures) (no-slot (s .args .l .now) (s .pre .1) (b .loop .i) (l .loop-test .taken) (sym (a .is-slot .ensures) ∙ not-true _ (i .if1 .taken)))
+
+mul-handle-fits : tie.Need-mul-handle-fits Inv-loop μ-loop
+mul-handle-fits c = omega arith
+
+shared-slice-read-handle-fits : tie.Need-shared-slice-read-handle-fits Inv-loop μ-loop
+shared-slice-read-handle-fits c = omega arith
+
+handle-fits-requires : tie.Need-handle-fits-requires Inv-loop μ-loop
+handle-fits-requires c κs = search needs
+
+unfit-requires-2 : tie.Need-unfit-requires-2 Inv-loop μ-loop
+unfit-requires-2 c κs = search needs
+
+returns-2 : tie.Need-returns-2 Inv-loop μ-loop
+returns-2 c =
+    let i = c .before in
+    let h = i .before in
+    let l = h .before .before .before .before .before in
+    let a = l .before in
+    let s = a .before .before .before in
+    nothing-passed (s .args .l .now) (c .unfit2 .ensures) (handle-unfit (s .args .l .now) (s .pre .1) (a .loop .i) (l .loop-test .taken) (sym (h .handle-fits .ensures) ∙ not-true _ (i .if2 .taken)))
+
+object-fits-requires : tie.Need-object-fits-requires Inv-loop μ-loop
+object-fits-requires c κs = omega arith
+
+unfit-requires-3 : tie.Need-unfit-requires-3 Inv-loop μ-loop
+unfit-requires-3 c κs = search needs
+
+returns-3 : tie.Need-returns-3 Inv-loop μ-loop
+returns-3 c =
+    let i = c .before in
+    let o = i .before in
+    let a = o .before in
+    let h = a .before in
+    let l = h .before .before .before .before .before in
+    let b = l .before in
+    let s = b .before .before .before in
+    nothing-passed (s .args .l .now) (c .unfit3 .ensures) (object-unfit (s .args .l .now) (s .pre .1) (b .loop .i) (l .loop-test .taken) (sym (h .handle-fits .ensures) ∙ not-false _ (a .if2 .left)) (sym (o .object-fits .ensures) ∙ not-true _ (i .if3 .taken)))
+
+bytes-of-requires : tie.Need-bytes-of-requires Inv-loop μ-loop
+bytes-of-requires c κs = (omega arith, sym (c .before .object-fits .ensures) ∙ not-false _ (c .if3 .left))
+
+add-end : tie.Need-add-end Inv-loop μ-loop
+add-end c =
+    let i = c .before in
+    let o = i .before in
+    let l = o .before .before .before .before .before .before .before in
+    let a = l .before in
+    let s = a .before .before .before in
+    omega (arith, a .loop .inv .1 .1 .1 .small, bytes-few (s .args .l .now) (s .pre .1) (a .loop .i) (l .loop-test .taken) (sym (o .object-fits .ensures) ∙ not-false _ (i .if3 .left)) (c .bytes-of .ensures))
+
+mul-goes-on : tie.Need-mul-goes-on Inv-loop μ-loop
+mul-goes-on c = omega arith
+
+shared-slice-read-goes-on : tie.Need-shared-slice-read-goes-on Inv-loop μ-loop
+shared-slice-read-goes-on c = omega arith
+
+goes-on-requires : tie.Need-goes-on-requires Inv-loop μ-loop
+goes-on-requires c κs = search needs
+
+mul-last : tie.Need-mul-last Inv-loop μ-loop
+mul-last c = omega arith
+
+shared-slice-read-last : tie.Need-shared-slice-read-last Inv-loop μ-loop
+shared-slice-read-last c = omega arith
+
+add-i : tie.Need-add-i Inv-loop μ-loop
+add-i c = omega arith
+
+loop-less : tie.Need-loop-less Inv-loop μ-loop
+loop-less c = omega arith
+
+loop-again : tie.Need-loop-again Inv-loop μ-loop
+loop-again c =
+    let g = c .before in
+    let b = g .before .before in
+    let i = b .before in
+    let o = i .before in
+    let a = o .before in
+    let h = a .before in
+    let d = h .before .before in
+    let e = d .before in
+    let l = e .before .before in
+    let f = l .before in
+    let s = f .before .before .before in
+    (omega arith, (search needs, (search needs, pass-more (s .args .l .now) (s .pre .1) (f .loop .i) (l .loop-test .taken) (f .loop .inv .1 .1 .1) (sym (e .is-slot .ensures) ∙ not-false _ (d .if1 .left)) (sym (h .handle-fits .ensures) ∙ not-false _ (a .if2 .left)) (sym (o .object-fits .ensures) ∙ not-false _ (i .if3 .left)) (b .bytes-of .ensures) (g .goes-on .ensures))))
+
+returns-4 : tie.Need-returns-4 Inv-loop μ-loop
+returns-4 c = all-passed (c .before .before .before .before .args .l .now) {i = c .before .loop .i} (omega arith) (c .before .loop .inv .1 .1 .1)
+
+pub scan-slots-spec : {M : Type 1} → statement M
+scan-slots-spec =
+    tie.close
+    (tie.spec
+    Inv-loop
+    μ-loop
+    shared-slice-read-n
+    cast-n
+    loop-holds
+    mul-p
+    add-p
+    add-e
+    mul-is-slot
+    sub-is-slot
+    part-is-slot-start
+    part-is-slot-end
+    is-slot-requires
+    unfit-requires
+    returns
+    mul-handle-fits
+    shared-slice-read-handle-fits
+    handle-fits-requires
+    unfit-requires-2
+    returns-2
+    object-fits-requires
+    unfit-requires-3
+    returns-3
+    bytes-of-requires
+    add-end
+    mul-goes-on
+    shared-slice-read-goes-on
+    goes-on-requires
+    mul-last
+    shared-slice-read-last
+    add-i
+    loop-less
+    loop-again
+    returns-4)
