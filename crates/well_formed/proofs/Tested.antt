@@ -3,8 +3,9 @@ use mathlib.Core.Bool.{Bool, true, false, _&&_}
 use mathlib.Core.List.{List}
 use mathlib.Core.Path.{_≡_, refl}
 use Prim.Native.Nat.{ℕ, zero, suc, _+_, _-_, _≤_, _<_}
-use native.Mathlib.Nat.{sub-self, add-zero}
+use native.Mathlib.Nat.{sub-self}
 use native.Mathlib.Omega.{arith}
+use lib.Bits.{bitOr, or-zero-r, or-add-and, and-le-l}
 use lib.Dec.{eqb, leb}
 use lib.ListN.{length}
 use borrow.Author.Tests.{lt-leb, le-leb, leb-true, eq-eqb, eqb-true, ne-eqb}
@@ -48,13 +49,12 @@ module _ (kind : ℕ) (l : List ℕ) where
   unfolding isObject
   bitmap-zeros e h = rw (e, le-leb (at l bitmapDirtyIn) 1 h)
 
--- a sum is 0 if both parts are
-sum-zero : (s x : ℕ) → eqb (s + x) 0 ≡ (eqb x 0 && eqb s 0)
-sum-zero zero zero = refl
-sum-zero (suc s) zero = rw (add-zero (suc s))
-sum-zero s (suc x) = rw (ne-eqb (s + suc x) 0 (λ e. omega (arith, e)), ne-eqb (suc x) 0 (λ e. omega (arith, e)))
+-- no bit is set in two numbers if both are 0
+or-zero : (s x : ℕ) → eqb (bitOr s x) 0 ≡ (eqb x 0 && eqb s 0)
+or-zero s zero = rw (or-zero-r s)
+or-zero s (suc x) = rw (ne-eqb (bitOr s (suc x)) 0 (λ e. omega (arith, e, or-add-and s (suc x), and-le-l s (suc x))), ne-eqb (suc x) 0 (λ e. omega (arith, e)))
 
--- the sum s of the numbers from k on, as far as i
+-- the bits s of the numbers from k on, as far as i
 module _ (l : List ℕ) (k : ℕ) where
   abbrev zerosTo : ℕ → Bool
   zerosTo i = allBelow (i - k) (λ j. eqb (at l (k + j)) 0)
@@ -62,12 +62,12 @@ module _ (l : List ℕ) (k : ℕ) where
   pub zeros-start : eqb 0 0 ≡ zerosTo k
   zeros-start = rw (sub-self k)
 
-  pub zeros-more : (i s : ℕ) → k ≤ i → eqb s 0 ≡ zerosTo i → eqb (s + at l i) 0 ≡ zerosTo (i + 1)
+  pub zeros-more : (i s : ℕ) → k ≤ i → eqb s 0 ≡ zerosTo i → eqb (bitOr s (at l i)) 0 ≡ zerosTo (i + 1)
   zeros-more i s le h =
       let f : ℕ → Bool = λ j. eqb (at l (k + j)) 0 in
       let e : k + (i - k) ≡ i = omega arith in
       let t : i + 1 - k ≡ suc (i - k) = omega arith in
-      rw (sum-zero s (at l i), t, all-suc (i - k) f, e, h)
+      rw (or-zero s (at l i), t, all-suc (i - k) f, e, h)
 
   pub zeros-end : (i s : ℕ) → i ≤ objectSize → objectSize ≤ i → eqb s 0 ≡ zerosTo i → eqb s 0 ≡ zerosFrom l k
   zeros-end i s le ge h = let e : i ≡ objectSize = omega arith in rw e at h

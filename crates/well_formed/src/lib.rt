@@ -87,16 +87,17 @@ fn is_dc(l: &[u32]) -> bool
     l[BITMAP] == 0
 }
 
-// Whether the numbers from k to the twelfth are 0. Their sum tells, which is faster than to stop at the first that is not.
+// Whether the numbers from k to the twelfth are 0. All their bits at once tell, which is faster than to stop at the first number
+// that is not.
 fn zeros_from(l: &[u32], k: usize) -> bool
     requires { ⌜ (k ≤ objectSize) × (objectSize ≤ length (now l)) ⌝ }
     ensures { λ r. ⌜ r ≡ zerosFrom (now (l .entry)) k ⌝ }
 {
-    let mut sum: u64 = 0;
+    let mut bits: u32 = 0;
     let mut i = k;
     while i < OBJECT_SIZE {
-        sum += l[i] as u64;
+        bits |= l[i];
         i += 1;
     }
-    sum == 0
+    bits == 0
 }
