@@ -20,7 +20,7 @@ use Rattle.gdi.specs.declared.GdiObject.the-variants.{Dc as DcOf, Bitmap, Brush
 use Rattle.gdi.specs.declared.GdiState.{GdiState}
 use Rattle.gdi.specs.declared.Slot.{Slot}
 use Rattle.gdi.specs.Lookup.{slotAt}
-use Rattle.numbers.specs.Layout.{dcSize, objectSize, slotSize, headSize, panelLenPlace, storeLenPlace, widthPlace, heightPlace, framesLowPlace, framesHighPlace, nextHandlePlace, stockDirtyPlace, countPlace, screenPlace, slotsPlace, slotPlace, kindPlace, objectPlace, surfaceIn, presentIn, bitmapIn, bkTransparentIn, bitmapDirtyIn, bitmapSize}
+use Rattle.numbers.specs.Layout.{dcSize, objectSize, slotSize, headSize, panelLenPlace, storeLenPlace, widthPlace, heightPlace, framesLowPlace, framesHighPlace, nextHandlePlace, stockDirtyPlace, countPlace, screenPlace, slotsPlace, slotPlace, kindPlace, objectPlace, surfaceIn, presentIn, bitmapIn, bkTransparentIn, bitmapWidthIn, bitmapHeightIn, bitmapDirtyIn, fontHeightIn, bitmapSize, brushSize, penSize, fontSize}
 use Rattle.numbers.specs.Block.{at, flagOf, isFlag, bit, surfaceOf, surfaceNumber, bitmapOf, presentNumber, bitmapNumber, dcOf, isDc, objectOf, zerosFrom, isObject, slotOf, isSlot}
 use Rattle.numbers.specs.View.{view, isRecord}
 use Rattle.numbers.proofs.Block.{no-kind, dcNumbers}
@@ -130,15 +130,15 @@ kind-back (suc (suc (suc zero))) l t = refl
 kind-back (suc (suc (suc (suc zero)))) l t = refl
 kind-back (suc (suc (suc (suc (suc k))))) l t = absurd (unknown-kind k l t)
 
-object-back : (k : ℕ) (l : List ℕ) → at l 0 < 2 ^ 32 → isObject k l ≡ true → (i : ℕ) → i < objectSize → at l i ≡ at (objectNumbers (objectOf k l)) i
+object-back : (k : ℕ) (l : List ℕ) → at l fontHeightIn < 2 ^ 32 → isObject k l ≡ true → (i : ℕ) → i < objectSize → at l i ≡ at (objectNumbers (objectOf k l)) i
 unfolding isObject objectOf
 object-back zero l b t i lt = dc-back l t i lt
 object-back (suc zero) l b t i lt =
     let a = both (isFlag (at l bitmapDirtyIn)) (zerosFrom l bitmapSize) t in
-    zeros-behind l bitmapSize (a .1) i lt ∙ ap (λ (n : ℕ). at (at l 0 ∷ at l 1 ∷ n ∷ []) i) (flag-number (at l bitmapDirtyIn) (leb-true (at l bitmapDirtyIn) 1 (a .0)))
-object-back (suc (suc zero)) l b t i lt = zeros-behind l 1 t i lt
-object-back (suc (suc (suc zero))) l b t i lt = zeros-behind l 2 t i lt
-object-back (suc (suc (suc (suc zero)))) l b t i lt = zeros-behind l 1 t i lt ∙ ap (λ (n : ℕ). at (n ∷ []) i) (complement-back (at l 0) b)
+    zeros-behind l bitmapSize (a .1) i lt ∙ ap (λ (n : ℕ). at (at l bitmapWidthIn ∷ at l bitmapHeightIn ∷ n ∷ []) i) (flag-number (at l bitmapDirtyIn) (leb-true (at l bitmapDirtyIn) 1 (a .0)))
+object-back (suc (suc zero)) l b t i lt = zeros-behind l brushSize t i lt
+object-back (suc (suc (suc zero))) l b t i lt = zeros-behind l penSize t i lt
+object-back (suc (suc (suc (suc zero)))) l b t i lt = zeros-behind l fontSize t i lt ∙ ap (λ (n : ℕ). at (n ∷ []) i) (complement-back (at l fontHeightIn) b)
 object-back (suc (suc (suc (suc (suc k))))) l b t i lt = absurd (unknown-kind k l t)
 
 -- a slot's numbers, from the slot
@@ -150,7 +150,7 @@ slot-back l b t zero lt = refl
 slot-back l b t (suc zero) lt = kind-back (at l kindPlace) (part l objectPlace objectSize) t
 slot-back l b t (suc (suc i)) lt =
     ap (at l) (omega arith) ∙ sym (part-at l objectPlace objectSize i (omega arith))
-    ∙ object-back (at l kindPlace) (part l objectPlace objectSize) (rw (part-at l objectPlace objectSize 0 (omega arith)) b) t i (omega arith)
+    ∙ object-back (at l kindPlace) (part l objectPlace objectSize) (rw (part-at l objectPlace objectSize fontHeightIn (omega arith)) b) t i (omega arith)
 
 -- what the numbers of a record are, by the record
 module _ (l : List ℕ) (small : (k : ℕ) → at l k < 2 ^ 32) (r : isRecord l ≡ true) where

@@ -16,7 +16,7 @@ use Rattle.gdi.specs.declared.GdiObject.the-variants.{Bitmap as BitmapOf}
 use Rattle.gdi.specs.Lookup.{slotAt, handleAt, objectAt, findOf}
 use Rattle.gdi.specs.Updates.{withStockDirty, withObjects, withHostDirty}
 use Rattle.gdi.proofs.Scan.{found-count}
-use Rattle.numbers.specs.Layout.{dcSize, objectSize, slotSize, framesLowPlace, framesHighPlace, stockDirtyPlace, countPlace, screenPlace, slotPlace, kindPlace, objectPlace, bitmapDirtyPlace, bitmapWidthIn, bitmapHeightIn, bitmapDirtyIn, bitmapSize}
+use Rattle.numbers.specs.Layout.{dcSize, objectSize, slotSize, framesLowPlace, framesHighPlace, stockDirtyPlace, countPlace, screenPlace, slotPlace, handlePlace, kindPlace, objectPlace, bitmapDirtyPlace, bitmapWidthIn, bitmapHeightIn, bitmapDirtyIn, bitmapSize}
 use Rattle.numbers.specs.Block.{bitmapFields, at, isFlag, isDc, objectOf, zerosFrom, isObject, slotOf, ObjectCoded, SlotCoded}
 use Rattle.numbers.specs.View.{view, isRecord, Stored}
 use Rattle.numbers.proofs.Record.{parts}
@@ -123,18 +123,18 @@ module _ (l : List ℕ) (r : isRecord l ≡ true) (i : ℕ) (lt : i < at l count
       seen = slot-seen l i lt (omega (arith, parts l r .few))
 
       kind : at slot kindPlace ≡ 1 → ⊥
-      kind e = ne (sym (part-at l (slotPlace i) slotSize 1 (omega arith)) ∙ e)
+      kind e = ne (sym (part-at l (slotPlace i) slotSize kindPlace (omega arith)) ∙ e)
 
       same : slotOf slot ≡ slotDirtied (slotOf slot)
       same =
-          ap (λ (o : GdiObject). record { handle = at slot 0; object = o })
+          ap (λ (o : GdiObject). record { handle = at slot handlePlace; object = o })
           (by-kind (at slot kindPlace) (part slot objectPlace objectSize) (λ o. o ≡ objectDirtied o) (λ e. refl) (λ e. absurd (kind e)) (λ x. refl) (λ x. refl) (λ x. refl))
 
   -- a bitmap's slot that took the mark
   bitmap-stored : at l (slotPlace i + kindPlace) ≡ 1 → (l′ : List ℕ) → Kept l (slotPlace i + bitmapDirtyPlace) 1 l′ → at l′ (slotPlace i + bitmapDirtyPlace) ≡ 1 → Stored l slotMarked l′
   bitmap-stored one l′ kept mark = slot-stored l l′ r i lt (record { long = kept .long; same = λ k out. kept .same k (λ a b. out (omega arith) (omega arith)) }) put
     where
-      same : (k : ℕ) → (k ≡ 4 → ⊥) → at l′ (slotPlace i + k) ≡ at l (slotPlace i + k)
+      same : (k : ℕ) → (k ≡ bitmapDirtyPlace → ⊥) → at l′ (slotPlace i + k) ≡ at l (slotPlace i + k)
       same k ne = kept .same (slotPlace i + k) (λ a b. ne (omega arith))
 
       xs : List ℕ
@@ -145,13 +145,13 @@ module _ (l : List ℕ) (r : isRecord l ≡ true) (i : ℕ) (lt : i < at l count
 
       number : (k : ℕ) → k < objectSize → (k ≡ bitmapDirtyIn → ⊥) → at xs k ≡ at ys k
       number k b ne =
-          part-at l′ (slotPlace i + objectPlace) objectSize k b ∙ ap (at l′) (omega arith) ∙ same (2 + k) (λ e. ne (omega arith)) ∙ ap (at l) (omega arith) ∙ sym (part-at l (slotPlace i + objectPlace) objectSize k b)
+          part-at l′ (slotPlace i + objectPlace) objectSize k b ∙ ap (at l′) (omega arith) ∙ same (objectPlace + k) (λ e. ne (omega arith)) ∙ ap (at l) (omega arith) ∙ sym (part-at l (slotPlace i + objectPlace) objectSize k b)
 
       third : slotPlace i + objectPlace + bitmapDirtyIn ≡ slotPlace i + bitmapDirtyPlace
       third = omega arith
 
       good : isObject 1 ys ≡ true
-      good = rw (part-at l (slotPlace i) slotSize 1 (omega arith), one, object-part l (slotPlace i)) at (parts l r .slots i lt)
+      good = rw (part-at l (slotPlace i) slotSize kindPlace (omega arith), one, object-part l (slotPlace i)) at (parts l r .slots i lt)
 
       was : objectAt (view l) i ≡ BitmapOf (bitmapFields ys)
       was = object-seen l r i lt ∙ object-bitmap _ _ one
@@ -160,14 +160,14 @@ module _ (l : List ℕ) (r : isRecord l ≡ true) (i : ℕ) (lt : i < at l count
       coded =
           rw was
           (bitmap-marked xs ys (number 0 (omega arith) (λ e. omega arith)) (number 1 (omega arith) (λ e. omega arith))
-          (part-at l′ (slotPlace i + objectPlace) objectSize 2 (omega arith) ∙ ap (at l′) third ∙ mark)
+          (part-at l′ (slotPlace i + objectPlace) objectSize bitmapDirtyIn (omega arith) ∙ ap (at l′) third ∙ mark)
           (λ j b. number (bitmapSize + j) (omega arith) (λ e. omega arith)) good)
 
       put : SlotCoded (slotDirtied (slotAt (view l) i)) (part l′ (slotPlace i) slotSize)
       put =
           slot-from 1 (handleAt (view l .objects) i) (part l′ (slotPlace i) slotSize) xs
-          (part-at l′ (slotPlace i) slotSize 0 (omega arith) ∙ same 0 (λ e. omega arith) ∙ ap (at l) (omega arith) ∙ sym (handle-seen l r i lt))
-          (part-at l′ (slotPlace i) slotSize 1 (omega arith) ∙ same 1 (λ e. omega arith) ∙ one)
+          (part-at l′ (slotPlace i) slotSize handlePlace (omega arith) ∙ same handlePlace (λ e. omega arith) ∙ ap (at l) (omega arith) ∙ sym (handle-seen l r i lt))
+          (part-at l′ (slotPlace i) slotSize kindPlace (omega arith) ∙ same kindPlace (λ e. omega arith) ∙ one)
           (object-part l′ (slotPlace i)) coded
 
   pub bitmap-set : at l (slotPlace i + kindPlace) ≡ 1 → Stored l slotMarked (set l (slotPlace i + bitmapDirtyPlace) 1)

@@ -25,7 +25,7 @@ use Rattle.gdi.specs.declared.Pen.{Pen as PenRecord}
 use Rattle.gdi.specs.declared.Font.{Font as FontRecord}
 use Rattle.gdi.specs.declared.GdiObject.{GdiObject}
 use Rattle.gdi.specs.declared.GdiObject.the-variants.{Bitmap as BitmapOf, Brush, Pen, Font}
-use Rattle.numbers.specs.Layout.{objectSize, slotSize, kindPlace, objectPlace}
+use Rattle.numbers.specs.Layout.{objectSize, slotSize, handlePlace, kindPlace, objectPlace}
 use Rattle.numbers.specs.Block.{at, flagOf, isFlag, bit, surfaceOf, surfaceNumber, bitmapOf, presentNumber, bitmapNumber, dcOf, isDc, objectOf, isObject, DcCoded, ObjectCoded, SlotCoded}
 use Rattle.numbers.proofs.Block.{flag-back, flag-flag, dcNumbers, lentBack, lent-back}
 
@@ -73,7 +73,7 @@ unfolding objectOf isObject
 font-coded x n f e = record { is-object = refl; same = ap (λ (z : ℤ). Font (record { height = z })) (e ∙ stored32 (x .height) f) }
 
 -- a slot: the object's part, then handle and kind in front of it
-pub slot-coded : {o : GdiObject} {kind : ℕ} (h : ℕ) (l b : List ℕ) → length l ≡ slotSize → length b ≡ objectSize → ObjectCoded o kind b → SlotCoded (record { handle = h; object = o }) (set (set (lentBack l objectPlace objectSize b) 0 h) 1 kind)
+pub slot-coded : {o : GdiObject} {kind : ℕ} (h : ℕ) (l b : List ℕ) → length l ≡ slotSize → length b ≡ objectSize → ObjectCoded o kind b → SlotCoded (record { handle = h; object = o }) (set (set (lentBack l objectPlace objectSize b) handlePlace h) kindPlace kind)
 slot-coded {o} {kind} h l b long len coded =
     record {
       is-slot = rw (number, fields) (coded .is-object);
@@ -87,16 +87,16 @@ slot-coded {o} {kind} h l b long len coded =
     size = ap length (lent-back l objectPlace objectSize b) ∙ length-with l b objectPlace objectSize len (omega arith)
 
     stored : List ℕ
-    stored = set (set whole 0 h) 1 kind
+    stored = set (set whole handlePlace h) kindPlace kind
 
     number : at stored kindPlace ≡ kind
-    number = getD-set-same (set whole 0 h) 1 kind 0 (omega (arith, size, length-set whole 0 h))
+    number = getD-set-same (set whole handlePlace h) kindPlace kind 0 (omega (arith, size, length-set whole handlePlace h))
 
-    handle : at stored 0 ≡ h
-    handle = getD-set-other (set whole 0 h) 1 0 kind 0 (λ e. omega arith) ∙ getD-set-same whole 0 h 0 (omega (arith, size))
+    handle : at stored handlePlace ≡ h
+    handle = getD-set-other (set whole handlePlace h) kindPlace handlePlace kind 0 (λ e. omega arith) ∙ getD-set-same whole handlePlace h 0 (omega (arith, size))
 
     fields : part stored objectPlace objectSize ≡ b
-    fields = ap (take objectSize) (drop-set-lt objectPlace (set whole 0 h) kindPlace kind (omega arith) ∙ drop-set-lt objectPlace whole 0 h (omega arith) ∙ ap (drop objectPlace) (lent-back l objectPlace objectSize b)) ∙ part-same l b objectPlace objectSize len (omega arith)
+    fields = ap (take objectSize) (drop-set-lt objectPlace (set whole handlePlace h) kindPlace kind (omega arith) ∙ drop-set-lt objectPlace whole handlePlace h (omega arith) ∙ ap (drop objectPlace) (lent-back l objectPlace objectSize b)) ∙ part-same l b objectPlace objectSize len (omega arith)
 
-pub still-long : (h : ℕ) (l b : List ℕ) → length l ≡ slotSize → length b ≡ objectSize → 1 < length (set (lentBack l objectPlace objectSize b) 0 h)
-still-long h l b long len = rw (length-set (lentBack l objectPlace objectSize b) 0 h, lent-back l objectPlace objectSize b, length-with l b objectPlace objectSize len (omega arith)) (omega arith)
+pub still-long : (h : ℕ) (l b : List ℕ) → length l ≡ slotSize → length b ≡ objectSize → kindPlace < length (set (lentBack l objectPlace objectSize b) handlePlace h)
+still-long h l b long len = rw (length-set (lentBack l objectPlace objectSize b) handlePlace h, lent-back l objectPlace objectSize b, length-with l b objectPlace objectSize len (omega arith)) (omega arith)

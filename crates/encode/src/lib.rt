@@ -10,6 +10,7 @@ use gdi::DcSurface;
 use gdi::GdiObject;
 use gdi::SelectedBitmap;
 use gdi::Slot;
+use numbers::HANDLE;
 use numbers::KIND;
 use numbers::OBJECT;
 use numbers::SLOT;
@@ -153,6 +154,6 @@ pub fn put_slot(l: &mut [u32], s: Slot)
 {
     let o = s.object;
     let kind = put_object(&mut l[OBJECT..SLOT], o);
-    l[0] = s.handle;
+    l[HANDLE] = s.handle;
     l[KIND] = kind;
 }

@@ -7,7 +7,6 @@ use Rattle.gdi.specs.Record.{fresh}
 use Rattle.gdi.specs.Updates.{withObjects}
 use Rattle.gdi.specs.Stock.{isStock}
 use Rattle.handles.specs.Handles.{free, firstFree, newHandle, added}
-use Rattle.numbers.specs.Layout.{objectSize, objectPlace}
 
 -- a record with another next handle
 abbrev withNext : GdiState → ℕ → GdiState
@@ -15,15 +14,15 @@ withNext b h = withObjects b h (b .count) (b .objects)
 
 -- a bench without objects, at this next handle
 abbrev benchAt : ℕ → GdiState
-benchAt h = withNext (fresh objectPlace objectSize 1 1) h
+benchAt h = withNext (fresh 2 12 1 1) h
 
 -- the first handle
-pub first : newHandle (fresh objectPlace objectSize 1 1) ≡ 0xDEAD_1000
+pub first : newHandle (fresh 2 12 1 1) ≡ 0xDEAD_1000
 unfolding firstFree free isStock
 first = refl
 
 -- the next handle is then one past it
-pub next : (o : GdiObject) → added (fresh objectPlace objectSize 1 1) o .«next_handle» ≡ 0xDEAD_1001
+pub next : (o : GdiObject) → added (fresh 2 12 1 1) o .«next_handle» ≡ 0xDEAD_1001
 unfolding added firstFree free isStock
 next o = refl
 

@@ -104,26 +104,26 @@ module _ (l : List ℕ) (r : isRecord l ≡ true) (few : at l countPlace < 256) 
     back-long = put-in .long ∙ parts l r .long
 
     pub appended : {h n : ℕ} {o : GdiObject} → n ≡ ahead h 1 → SlotCoded (record { handle = h; object = o }) x
-        → Stored l (addedAs (view l) h o) (set (set (slotBack l (at l countPlace) x) 6 n) 8 (at l countPlace + 1))
+        → Stored l (addedAs (view l) h o) (set (set (slotBack l (at l countPlace) x) nextHandlePlace n) countPlace (at l countPlace + 1))
     appended {h} {n} {o} e coded = grown l m l′ r few put-in counted (next ∙ e) flag count there
       where
         m : List ℕ
         m = slotBack l (at l countPlace) x
 
         l′ : List ℕ
-        l′ = set (set m 6 n) 8 (at l countPlace + 1)
+        l′ = set (set m nextHandlePlace n) countPlace (at l countPlace + 1)
 
         counted : Kept m nextHandlePlace 3 l′
-        counted = kept-set 8 (at l countPlace + 1) (kept-set 6 n (kept-all m 6 3) (omega arith) (omega arith)) (omega arith) (omega arith)
+        counted = kept-set countPlace (at l countPlace + 1) (kept-set nextHandlePlace n (kept-all m nextHandlePlace 3) (omega arith) (omega arith)) (omega arith) (omega arith)
 
         next : at l′ nextHandlePlace ≡ n
-        next = getD-set-other (set m 6 n) 8 6 (at l countPlace + 1) 0 (λ z. omega arith) ∙ getD-set-same m 6 n 0 (omega (arith, back-long))
+        next = getD-set-other (set m nextHandlePlace n) countPlace nextHandlePlace (at l countPlace + 1) 0 (λ z. omega arith) ∙ getD-set-same m nextHandlePlace n 0 (omega (arith, back-long))
 
         flag : at l′ stockDirtyPlace ≡ at m stockDirtyPlace
-        flag = getD-set-other (set m 6 n) 8 7 (at l countPlace + 1) 0 (λ z. omega arith) ∙ getD-set-other m 6 7 n 0 (λ z. omega arith)
+        flag = getD-set-other (set m nextHandlePlace n) countPlace stockDirtyPlace (at l countPlace + 1) 0 (λ z. omega arith) ∙ getD-set-other m nextHandlePlace stockDirtyPlace n 0 (λ z. omega arith)
 
         count : at l′ countPlace ≡ at l countPlace + 1
-        count = getD-set-same (set m 6 n) 8 (at l countPlace + 1) 0 (omega (arith, length-set m 6 n, back-long))
+        count = getD-set-same (set m nextHandlePlace n) countPlace (at l countPlace + 1) 0 (omega (arith, length-set m nextHandlePlace n, back-long))
 
         there : SlotCoded (record { handle = h; object = o }) (part m (slotPlace (at l countPlace)) slotSize)
         there = rw (slot-back l (at l countPlace) x, part-same l x (slotPlace (at l countPlace)) slotSize slot-size room) coded

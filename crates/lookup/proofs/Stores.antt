@@ -18,7 +18,7 @@ use Rattle.gdi.specs.declared.GdiObject.the-variants.{Dc as DcOf}
 use Rattle.gdi.specs.Lookup.{objectAt, findOf}
 use Rattle.gdi.specs.Updates.{withScreen, storeOf}
 use Rattle.gdi.proofs.Scan.{found-count, scan-handle, dc-found}
-use Rattle.numbers.specs.Layout.{dcSize, objectSize, slotSize, headSize, stockDirtyPlace, countPlace, screenPlace, slotPlace, kindPlace, objectPlace}
+use Rattle.numbers.specs.Layout.{dcSize, objectSize, slotSize, headSize, stockDirtyPlace, countPlace, screenPlace, slotPlace, handlePlace, kindPlace, objectPlace}
 use Rattle.numbers.specs.Block.{at, DcCoded, ObjectCoded, SlotCoded}
 use Rattle.numbers.specs.View.{view, isRecord, Stored}
 use Rattle.numbers.proofs.Block.{lentBack, lent-back, dc-object}
@@ -29,7 +29,7 @@ use Rattle.numbers.proofs.Updates.{screen-seen as screen-same}
 use Rattle.numbers.proofs.Kept.{Kept, kept-part, table-kept, front-record, front-rest, slot-stored}
 
 -- a slot by its handle, its kind and the object's numbers
-pub slot-from : {o : GdiObject} (kind h : ℕ) (m xs : List ℕ) → at m 0 ≡ h → at m kindPlace ≡ kind → part m objectPlace objectSize ≡ xs → ObjectCoded o kind xs → SlotCoded (record { handle = h; object = o }) m
+pub slot-from : {o : GdiObject} (kind h : ℕ) (m xs : List ℕ) → at m handlePlace ≡ h → at m kindPlace ≡ kind → part m objectPlace objectSize ≡ xs → ObjectCoded o kind xs → SlotCoded (record { handle = h; object = o }) m
 slot-from kind h m xs a b e coded =
     record {
       is-slot = rw (b, e) (coded .is-object);
@@ -89,14 +89,14 @@ module _ (l : List ℕ) (r : isRecord l ≡ true) where
         fits : slotPlace i + objectPlace + objectSize ≤ length l
         fits = omega (arith, spot-room)
 
-        zeroth : slotPlace i + 0 ≡ slotPlace i
+        zeroth : slotPlace i + handlePlace ≡ slotPlace i
         zeroth = omega arith
 
         put : SlotCoded (record { handle = h; object = DcOf d }) (part whole (slotPlace i) slotSize)
         put =
             slot-from 0 h (part whole (slotPlace i) slotSize) xs
-            (part-at whole (slotPlace i) slotSize 0 (omega arith) ∙ ap (at whole) zeroth ∙ with-before l xs (slotPlace i + objectPlace) objectSize len fits (slotPlace i) (omega arith) ∙ handle)
-            (part-at whole (slotPlace i) slotSize 1 (omega arith) ∙ with-before l xs (slotPlace i + objectPlace) objectSize len fits (slotPlace i + kindPlace) (omega arith) ∙ kind)
+            (part-at whole (slotPlace i) slotSize handlePlace (omega arith) ∙ ap (at whole) zeroth ∙ with-before l xs (slotPlace i + objectPlace) objectSize len fits (slotPlace i) (omega arith) ∙ handle)
+            (part-at whole (slotPlace i) slotSize kindPlace (omega arith) ∙ with-before l xs (slotPlace i + objectPlace) objectSize len fits (slotPlace i + kindPlace) (omega arith) ∙ kind)
             (object-part whole (slotPlace i) ∙ part-same l xs (slotPlace i + objectPlace) objectSize len fits)
             (dc-object coded)
 

@@ -16,7 +16,7 @@ use Rattle.gdi.specs.declared.Font.{Font as FontRecord}
 use Rattle.gdi.specs.declared.GdiObject.{GdiObject}
 use Rattle.gdi.specs.declared.GdiObject.the-variants.{Dc as DcOf, Bitmap, Brush, Pen, Font}
 use Rattle.gdi.specs.Lookup.{handleAt, objectAt}
-use Rattle.numbers.specs.Layout.{dcSize, objectSize, slotSize, recordSize, panelLenPlace, storeLenPlace, widthPlace, heightPlace, countPlace, screenPlace, slotPlace, kindPlace, objectPlace, bitmapHeightPlace, bitmapHeightIn, colorIn, penWidthIn, fontHeightIn}
+use Rattle.numbers.specs.Layout.{dcSize, objectSize, slotSize, recordSize, panelLenPlace, storeLenPlace, widthPlace, heightPlace, countPlace, screenPlace, slotPlace, handlePlace, kindPlace, objectPlace, bitmapHeightPlace, bitmapHeightIn, colorIn, penWidthIn, fontHeightIn}
 use Rattle.numbers.specs.Block.{bitmapFields, at, dcOf, objectOf}
 use Rattle.numbers.specs.View.{view, isRecord}
 use Rattle.numbers.proofs.Record.{parts}
@@ -27,7 +27,7 @@ pub part-at : (l : List ℕ) (p n k : ℕ) → k < n → at (part l p n) k ≡ a
 part-at l p n k h = getD-take n (drop p l) k 0 h ∙ getD-drop p l k 0
 
 pub part-second : (l : List ℕ) (p : ℕ) → at (part l (p + objectPlace) objectSize) bitmapHeightIn ≡ at l (p + bitmapHeightPlace)
-part-second l p = part-at l (p + objectPlace) objectSize 1 (omega arith) ∙ ap (at l) (omega arith)
+part-second l p = part-at l (p + objectPlace) objectSize bitmapHeightIn (omega arith) ∙ ap (at l) (omega arith)
 
 pub part-first : (l : List ℕ) (p : ℕ) → at (part l p objectSize) 0 ≡ at l p
 part-first l p = part-at l p objectSize 0 (omega arith) ∙ ap (at l) (omega arith)
@@ -70,12 +70,12 @@ module _ (l : List ℕ) where
 -- slot i of an object, of at most 256
 module _ (l : List ℕ) (few : at l countPlace ≤ 256) (i : ℕ) (lt : i < at l countPlace) where
   pub handle-read : handleAt (view l .objects) i ≡ at l (slotPlace i)
-  handle-read = ap (λ s. s .handle) (slot-seen l i lt (omega arith)) ∙ part-at l (slotPlace i) slotSize 0 (omega arith) ∙ ap (at l) (omega arith)
+  handle-read = ap (λ s. s .handle) (slot-seen l i lt (omega arith)) ∙ part-at l (slotPlace i) slotSize handlePlace (omega arith) ∙ ap (at l) (omega arith)
 
   pub object-read : objectAt (view l) i ≡ objectOf (at l (slotPlace i + kindPlace)) (part l (slotPlace i + objectPlace) objectSize)
   object-read =
       ap (λ s. s .object) (slot-seen l i lt (omega arith))
-      ∙ ap (λ (k : ℕ). objectOf k (part (part l (slotPlace i) slotSize) objectPlace objectSize)) (part-at l (slotPlace i) slotSize 1 (omega arith))
+      ∙ ap (λ (k : ℕ). objectOf k (part (part l (slotPlace i) slotSize) objectPlace objectSize)) (part-at l (slotPlace i) slotSize kindPlace (omega arith))
       ∙ ap (objectOf (at l (slotPlace i + kindPlace))) (object-part l (slotPlace i))
 
 -- numbers that are a record: as many as there have to be, with at most 256 objects

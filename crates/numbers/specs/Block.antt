@@ -17,7 +17,7 @@ use Rattle.gdi.specs.declared.Bitmap.{Bitmap as BitmapRecord}
 use Rattle.gdi.specs.declared.GdiObject.{GdiObject}
 use Rattle.gdi.specs.declared.GdiObject.the-variants.{Dc as DcOf, Bitmap, Brush, Pen, Font}
 use Rattle.gdi.specs.declared.Slot.{Slot}
-use Rattle.numbers.specs.Layout.{objectSize, kindPlace, objectPlace, surfaceIn, presentIn, bitmapIn, brushIn, penIn, fontIn, brushColorIn, penColorIn, textColorIn, textAlignIn, bkColorIn, bkTransparentIn, bitmapWidthIn, bitmapHeightIn, bitmapDirtyIn, colorIn, penWidthIn, fontHeightIn, bitmapSize, brushSize, penSize, fontSize}
+use Rattle.numbers.specs.Layout.{objectSize, handlePlace, kindPlace, objectPlace, surfaceIn, presentIn, bitmapIn, brushIn, penIn, fontIn, brushColorIn, penColorIn, textColorIn, textAlignIn, bkColorIn, bkTransparentIn, bitmapWidthIn, bitmapHeightIn, bitmapDirtyIn, colorIn, penWidthIn, fontHeightIn, bitmapSize, brushSize, penSize, fontSize}
 
 -- number k of a block
 abbrev pub at : List ℕ → ℕ → ℕ
@@ -104,7 +104,7 @@ isObject kind l =
 
 -- A slot is fourteen numbers: handle, kind, and the object's twelve.
 abbrev pub slotOf : List ℕ → Slot
-slotOf l = record { handle = at l 0; object = objectOf (at l kindPlace) (part l objectPlace objectSize) }
+slotOf l = record { handle = at l handlePlace; object = objectOf (at l kindPlace) (part l objectPlace objectSize) }
 
 abbrev pub isSlot : List ℕ → Bool
 isSlot l = isObject (at l kindPlace) (part l objectPlace objectSize)

@@ -1,17 +1,27 @@
 -- The layout of a record's numbers: how many each part has, and where it stands. The constants in src/ are these.
 use Prim.Native.Nat.{ℕ, _+_, _*_}
 
--- A DC has twelve numbers. An object has as many as the largest, a DC; a slot has a handle and a kind in front of its object. A
--- record has nine numbers in front of its screen DC, and 256 slots behind it.
+-- a DC has twelve numbers; an object has as many as the largest, a DC
 abbrev pub dcSize : ℕ
 dcSize = 12
 
 abbrev pub objectSize : ℕ
 objectSize = dcSize
 
-abbrev pub slotSize : ℕ
-slotSize = 2 + objectSize
+-- in a slot: the handle, the kind, the object
+abbrev pub handlePlace : ℕ
+handlePlace = 0
 
+abbrev pub kindPlace : ℕ
+kindPlace = 1
+
+abbrev pub objectPlace : ℕ
+objectPlace = 2
+
+abbrev pub slotSize : ℕ
+slotSize = objectPlace + objectSize
+
+-- a record has nine numbers in front of its screen DC, and 256 slots behind it
 abbrev pub headSize : ℕ
 headSize = 9
 
@@ -56,13 +66,6 @@ slotsPlace = screenPlace + dcSize
 -- slot i; past the last object, where the numbers in use end
 abbrev pub slotPlace : ℕ → ℕ
 slotPlace i = slotsPlace + slotSize * i
-
--- in a slot, behind the handle: the kind, the object
-abbrev pub kindPlace : ℕ
-kindPlace = 1
-
-abbrev pub objectPlace : ℕ
-objectPlace = 2
 
 -- in a DC: surface, bitmap present, bitmap, brush, pen, font, brush colour, pen colour, text colour, alignment, background colour,
 -- transparent

@@ -20,11 +20,11 @@ use gdi::Slot;
 // The layout (specs/Layout.antt). How many numbers a DC, an object, a slot and a record have.
 pub const DC: usize = 12;
 
-pub const OBJECT_SIZE: usize = 12;
+pub const OBJECT_SIZE: usize = DC;
 
-pub const SLOT: usize = 14;
+pub const SLOT: usize = OBJECT + OBJECT_SIZE;
 
-pub const RECORD: usize = 3605;
+pub const RECORD: usize = SLOTS + SLOT * 256;
 
 // In a record: the memories' lengths, the panel's sides, the frame counter's halves, the next handle, the stock bitmap's mark, the
 // count, the screen DC, the first slot.
@@ -48,16 +48,18 @@ pub const COUNT: usize = 8;
 
 pub const SCREEN: usize = 9;
 
-pub const SLOTS: usize = 21;
+pub const SLOTS: usize = SCREEN + DC;
 
-// In a slot, behind the handle: the kind, the object; of a bitmap the height and the mark.
+// In a slot: the handle, the kind, the object; of a bitmap the height and the mark.
+pub const HANDLE: usize = 0;
+
 pub const KIND: usize = 1;
 
 pub const OBJECT: usize = 2;
 
-pub const BITMAP_HEIGHT: usize = 3;
+pub const BITMAP_HEIGHT: usize = OBJECT + HEIGHT_IN;
 
-pub const BITMAP_DIRTY: usize = 4;
+pub const BITMAP_DIRTY: usize = OBJECT + DIRTY_IN;
 
 // In a DC.
 pub const SURFACE: usize = 0;
@@ -197,7 +199,7 @@ pub fn slot_of(l: &[u32]) -> Slot
 {
     let o = object_of(l[KIND], &l[OBJECT..SLOT]);
     Slot {
-        handle: l[0],
+        handle: l[HANDLE],
         object: o,
     }
 }

@@ -3,7 +3,7 @@ ghost use mathlib.Core.List.{[], _∷_};
 ghost use mathlib.Core.Path.{_≡_};
 ghost use lib.ListN.{length};
 ghost use Rattle.gdi.specs.Record.{fresh};
-ghost use Rattle.numbers.specs.Layout.{recordSize};
+ghost use Rattle.numbers.specs.Layout.{headSize, recordSize};
 ghost use Rattle.numbers.specs.View.{Stored};
 ghost use Rattle.paint.specs.Memories.{memories};
 ghost use Rattle.plan.specs.Open.{openRefusal, Opened};
@@ -85,7 +85,7 @@ fn put_fresh(l: &mut [u32], panel_len: u32, store_len: u32, width: u32, height: 
 
 // Puts the numbers in front of the screen DC.
 fn put_head(l: &mut [u32], panel_len: u32, store_len: u32, width: u32, height: u32)
-    requires { ⌜ length (now l) ≡ 9 ⌝ }
+    requires { ⌜ length (now l) ≡ headSize ⌝ }
     ensures { λ _. ⌜ now (l .exit) ≡ «panel_len» ∷ «store_len» ∷ width ∷ height ∷ 0 ∷ 0 ∷ 0xDEAD_1000 ∷ 0 ∷ 0 ∷ [] ⌝ }
 {
     l[PANEL_LEN] = panel_len;

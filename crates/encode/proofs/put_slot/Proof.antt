@@ -4,6 +4,7 @@ use native.Mathlib.Omega.{arith}
 use denote.Ref.{now}
 use borrow.Author.Needs.{needs}
 use Rattle.words.proofs.Parts.{length-part}
+use Rattle.numbers.specs.Layout.{objectSize, objectPlace}
 use Rattle.encode.proofs.Coded.{slot-coded, still-long}
 use Rattle.encode.proofs.put_slot.Statement.{statement}
 use Rattle.encode.proofs.put_slot.Tie as tie
@@ -24,13 +25,13 @@ slice-write-l : tie.Need-slice-write-l
 slice-write-l c = search needs
 
 slice-write-l-2 : tie.Need-slice-write-l-2
-slice-write-l-2 c = let s = c .before .before .before .before .before in still-long _ (now (s .args .l)) (c .before .before .put-object .last .0) (s .pre) (c .before .before .put-object .kept .0 ∙ length-part (now (s .args .l)) 2 12 (omega arith))
+slice-write-l-2 c = let s = c .before .before .before .before .before in still-long _ (now (s .args .l)) (c .before .before .put-object .last .0) (s .pre) (c .before .before .put-object .kept .0 ∙ length-part (now (s .args .l)) objectPlace objectSize (omega arith))
 
 same-length : tie.Need-same-length
 same-length c = search needs
 
 returns : tie.Need-returns
-returns c = let s = c .before .before .before .before .before in slot-coded _ (now (s .args .l)) (c .before .before .put-object .last .0) (s .pre) (c .before .before .put-object .kept .0 ∙ length-part (now (s .args .l)) 2 12 (omega arith)) (c .before .before .put-object .ensures)
+returns c = let s = c .before .before .before .before .before in slot-coded _ (now (s .args .l)) (c .before .before .put-object .last .0) (s .pre) (c .before .before .put-object .kept .0 ∙ length-part (now (s .args .l)) objectPlace objectSize (omega arith)) (c .before .before .put-object .ensures)
 
 pub put-slot-spec : {M : Type 1} → statement M
 put-slot-spec =
