@@ -40,7 +40,7 @@ fn put_rgba_run(pixels: &[u8], n: usize, out: &mut [u8])
     ensures { λ _. ⌜ now (out .exit) ≡ put (now (out .entry)) 0 (rgbaOf (now (pixels .entry)) n) ⌝ }
 {
     for i in 0..n {
-        put_rgba(out, 4 * i, words::word_at(pixels, i));
+        put_rgba(out, i, words::word_at(pixels, i));
     }
 }
 
@@ -54,13 +54,18 @@ fn put_rgb_run(pixels: &[u8], n: usize, out: &mut [u8], at: usize)
     }
 }
 
-// R, G, B and 255 of a word from `at` on.
-fn put_rgba(out: &mut [u8], at: usize, v: u16)
-    requires { ⌜ at + 3 < length (now out) ⌝ }
-    ensures { λ _. ⌜ now (out .exit) ≡ put (now (out .entry)) at (rgba v) ⌝ }
+// R, G, B and 255 of a word as pixel i. They are stored as two words of 16 bits: of single bytes the compiler makes code that
+// takes three times as long.
+fn put_rgba(out: &mut [u8], i: usize, v: u16)
+    requires { ⌜ 4 * i + 3 < length (now out) ⌝ }
+    ensures { λ _. ⌜ now (out .exit) ≡ put (now (out .entry)) (4 * i) (rgba v) ⌝ }
 {
-    put_rgb(out, at, v);
-    out[at + 3] = 255;
+    let w = color::rgb565_to_colorref(Rgb565(v));
+    let r = color::red(w) as u16;
+    let g = color::green(w) as u16;
+    let b = color::blue(w) as u16;
+    words::set_word(out, 2 * i, r + 256 * g);
+    words::set_word(out, 2 * i + 1, b + 0xFF00);
 }
 
 // R, G and B of a word, widened, from `at` on.

@@ -20,9 +20,6 @@ abbrev μ-loop : tie.MeasureT-loop
 loop-holds : tie.Need-loop-holds Inv-loop μ-loop
 loop-holds c = let a = c .before .before .args in (put-first (λ j. rgba (word (a .pixels .now) j)) (a .out .now) 0, (refl, search needs))
 
-mul-put-rgba : tie.Need-mul-put-rgba Inv-loop μ-loop
-mul-put-rgba c = search needs
-
 word-at-requires : tie.Need-word-at-requires Inv-loop μ-loop
 word-at-requires c κs = search needs
 
@@ -55,7 +52,6 @@ put-rgba-run-spec =
     Inv-loop
     μ-loop
     loop-holds
-    mul-put-rgba
     word-at-requires
     put-rgba-requires
     add-i
