@@ -54,15 +54,15 @@ pub use record::Record;
 pub use refusal::Refusal;
 
 /// The numbers of a record.
-pub const RECORD: usize = 3605;
+pub const RECORD: usize = SLOTS + SLOT * MAX_OBJECTS;
 /// Where the screen DC's numbers begin in a record.
 pub const SCREEN: usize = 9;
 /// Where the first slot's numbers begin in a record.
-pub const SLOTS: usize = 21;
+pub const SLOTS: usize = SCREEN + DC;
 /// The numbers of a DC or an object.
 pub const DC: usize = 12;
 /// The numbers of a slot: a handle, a kind, and those of the object.
-pub const SLOT: usize = 14;
+pub const SLOT: usize = 2 + DC;
 /// As many created objects a record can hold.
 pub const MAX_OBJECTS: usize = 256;
 /// The kind in a reply that has no object.

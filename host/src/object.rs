@@ -167,7 +167,7 @@ pub struct Slot {
 }
 
 impl Dc {
-    /// The DC that twelve numbers are.
+    /// The DC that these numbers are.
     pub(crate) fn of(numbers: &[u32; 12]) -> Dc {
         let &[surface, present, bitmap, brush, pen, font, colors @ ..] = numbers;
         let [brush_color, pen_color, text_color, text_align, bk_color, transparent] = colors;
@@ -188,7 +188,7 @@ impl Dc {
 }
 
 impl GdiObject {
-    /// The object that a kind and twelve numbers are; none of another kind.
+    /// The object that a kind and its numbers are; none of another kind.
     pub(crate) fn of(kind: u32, numbers: &[u32; 12]) -> Option<GdiObject> {
         let &[first, second, third, ..] = numbers;
         let color = Colorref(first);

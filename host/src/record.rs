@@ -191,7 +191,7 @@ impl Record {
         self.numbers.get(i).copied().unwrap_or(0)
     }
 
-    /// The twelve numbers of a DC or an object.
+    /// The numbers of a DC or an object.
     fn block(&self, start: usize) -> [u32; DC] {
         std::array::from_fn(|i| self.at(start + i))
     }

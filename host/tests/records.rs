@@ -83,7 +83,7 @@ fn screen(surface: u32) -> [u32; DC] {
     let mut record = Record::new();
     record.open(1, 1, &mut [0; 2], &mut [0; 2]).expect("a bench");
     let mut screen: [u32; DC] =
-        record.as_numbers()[SCREEN..SLOTS].try_into().expect("twelve numbers");
+        record.as_numbers()[SCREEN..SLOTS].try_into().expect("the numbers of a DC");
     screen[0] = surface;
     screen
 }

@@ -81,7 +81,7 @@ listed-behind l p zero i h = refl
 listed-behind l p (suc k) zero h = absurd (omega arith)
 listed-behind l p (suc k) (suc i) h = listed-behind l (suc p) k i (omega arith)
 
--- twelve numbers of which those from k on are 0 are the first k, and zeros
+-- an object's numbers of which those from k on are 0 are the first k, and zeros
 zeros-behind : (l : List ℕ) (k : ℕ) → zerosFrom l k ≡ true → (i : ℕ) → i < objectSize → at l i ≡ at (listed l 0 k) i
 zeros-behind l k t i lt = by (decLt i k)
   where

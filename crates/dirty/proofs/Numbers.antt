@@ -2,29 +2,27 @@
 use mathlib.Core.Bool.{Bool, true, false}
 use mathlib.Core.List.{List}
 use mathlib.Core.Path.{_≡_, refl, sym, _∙_, ap, subst}
-use Prim.Native.Nat.{ℕ, _+_, _-_, _*_, _%_, _/_, _≤_, _<_}
+use Prim.Native.Nat.{ℕ, _+_, _*_, _%_, _/_, _≤_, _<_}
 use native.Mathlib.Omega.{arith}
-use lib.Dec.{eqb}
 use lib.ListN.{length, set, length-set}
 use lib.Seq.{getD-set-same, getD-set-other}
-use Rattle.laws.proofs.Test.{both, all-same}
 use Rattle.words.specs.Parts.{part}
 use Rattle.gdi.specs.declared.GdiState.{GdiState}
 use Rattle.gdi.specs.declared.Found.the-variants.{At}
 use Rattle.gdi.specs.declared.GdiObject.{GdiObject}
 use Rattle.gdi.specs.declared.GdiObject.the-variants.{Bitmap as BitmapOf}
 use Rattle.gdi.specs.Lookup.{slotAt, handleAt, objectAt, findOf}
-use Rattle.gdi.specs.Updates.{withStockDirty, withObjects, withHostDirty}
+use Rattle.gdi.specs.Updates.{withStockDirty, withObjects}
 use Rattle.gdi.proofs.Scan.{found-count}
-use Rattle.numbers.specs.Layout.{dcSize, objectSize, slotSize, framesLowPlace, framesHighPlace, stockDirtyPlace, countPlace, screenPlace, slotPlace, handlePlace, kindPlace, objectPlace, bitmapDirtyPlace, bitmapWidthIn, bitmapHeightIn, bitmapDirtyIn, bitmapSize}
-use Rattle.numbers.specs.Block.{bitmapFields, at, isFlag, isDc, objectOf, zerosFrom, isObject, slotOf, ObjectCoded, SlotCoded}
+use Rattle.numbers.specs.Layout.{dcSize, objectSize, slotSize, framesLowPlace, framesHighPlace, stockDirtyPlace, countPlace, screenPlace, slotPlace, handlePlace, kindPlace, objectPlace, bitmapDirtyPlace, bitmapDirtyIn}
+use Rattle.numbers.specs.Block.{bitmapFields, at, isDc, isObject, slotOf, ObjectCoded, SlotCoded}
 use Rattle.numbers.specs.View.{view, isRecord, Stored}
 use Rattle.numbers.proofs.Record.{parts}
 use Rattle.numbers.proofs.Seen.{count-seen, handle-seen, object-seen, object-bitmap, object-part, part-at, by-kind}
 use Rattle.numbers.proofs.View.{slot-seen}
 use Rattle.place.specs.declared.SurfaceId.{SurfaceId}
 use Rattle.dirty.specs.Dirty.{objectDirtied, slotDirtied, framed, dirtied, dirtiedIf}
-use Rattle.numbers.proofs.Updates.{frames-seen, stock-seen as stock-same}
+use Rattle.numbers.proofs.Updates.{frames-seen, stock-seen as stock-same, bitmap-marked}
 use Rattle.numbers.proofs.Kept.{Kept, kept-all, kept-set, part-kept, table-kept, front-record, front-rest, slot-stored}
 use Rattle.lookup.proofs.Stores.{slot-from}
 
@@ -95,16 +93,6 @@ module _ (l l′ : List ℕ) (r : isRecord l ≡ true) where
     unfolding view
     stock-stored = head-stored kept (omega arith) stock-seen refl (omega arith)
 
--- a bitmap's numbers with the mark
-bitmap-marked : (xs ys : List ℕ) → at xs bitmapWidthIn ≡ at ys bitmapWidthIn → at xs bitmapHeightIn ≡ at ys bitmapHeightIn → at xs bitmapDirtyIn ≡ 1 → ((j : ℕ) → j < objectSize - bitmapSize → at xs (bitmapSize + j) ≡ at ys (bitmapSize + j)) → isObject 1 ys ≡ true
-    → ObjectCoded (BitmapOf (withHostDirty (bitmapFields ys))) 1 xs
-unfolding objectOf isObject
-bitmap-marked xs ys a b m same good =
-    record {
-      is-object = rw m (all-same (objectSize - bitmapSize) (λ j. eqb (at xs (bitmapSize + j)) 0) (λ j. eqb (at ys (bitmapSize + j)) 0) (λ j lt. ap (λ (v : ℕ). eqb v 0) (same j lt)) ∙ both (isFlag (at ys bitmapDirtyIn)) (zerosFrom ys bitmapSize) good .1);
-      same = rw (a, b, m);
-    }
-
 module _ (l : List ℕ) (r : isRecord l ≡ true) (i : ℕ) (lt : i < at l countPlace) where
   abbrev slotMarked : GdiState
   slotMarked = withObjects (view l) (view l .«next_handle») (view l .count) (set (view l .objects) i (slotDirtied (slotAt (view l) i)))
@@ -159,9 +147,7 @@ module _ (l : List ℕ) (r : isRecord l ≡ true) (i : ℕ) (lt : i < at l count
       coded : ObjectCoded (objectDirtied (objectAt (view l) i)) 1 xs
       coded =
           rw was
-          (bitmap-marked xs ys (number 0 (omega arith) (λ e. omega arith)) (number 1 (omega arith) (λ e. omega arith))
-          (part-at l′ (slotPlace i + objectPlace) objectSize bitmapDirtyIn (omega arith) ∙ ap (at l′) third ∙ mark)
-          (λ j b. number (bitmapSize + j) (omega arith) (λ e. omega arith)) good)
+          (bitmap-marked xs ys number (part-at l′ (slotPlace i + objectPlace) objectSize bitmapDirtyIn (omega arith) ∙ ap (at l′) third ∙ mark) good)
 
       put : SlotCoded (slotDirtied (slotAt (view l) i)) (part l′ (slotPlace i) slotSize)
       put =

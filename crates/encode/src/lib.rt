@@ -52,7 +52,7 @@ fn unsigned(z: i32) -> u32
     z as u32
 }
 
-// Puts twelve numbers.
+// Puts the numbers of an object.
 fn put(
     l: &mut [u32],
     a: u32,

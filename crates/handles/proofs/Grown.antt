@@ -23,7 +23,7 @@ use Rattle.numbers.specs.View.{slotIn, tableOf, view, isRecord, Stored}
 use Rattle.numbers.proofs.Record.{parts, by-slots}
 use Rattle.numbers.proofs.View.{length-table, table-set}
 use Rattle.numbers.proofs.Slots.{lentSlot, slotBack, lent-long, slot-back}
-use Rattle.numbers.proofs.Updates.{objects-seen}
+use Rattle.numbers.proofs.Updates.{KeptBut, objects-seen}
 use Rattle.numbers.proofs.Kept.{Kept, kept-all, kept-set, kept-part, part-kept, tail-kept}
 use Rattle.handles.specs.Handles.{ahead, inserted, addedAs}
 
@@ -32,13 +32,13 @@ slot-as : (l l′ : List ℕ) (m n i : ℕ) → ltb i n ≡ ltb i m → part l�
 slot-as l l′ m n i e f = rw (e, f)
 
 -- l, with a slot put behind its last object, and then with another next handle and one object more
-module _ (l m l′ : List ℕ) (r : isRecord l ≡ true) (few : at l countPlace < 256) (put : Kept l (slotPlace (at l countPlace)) slotSize m) (counted : Kept m nextHandlePlace 3 l′)
-    {next : ℕ} (named : at l′ nextHandlePlace ≡ next) (flag : at l′ stockDirtyPlace ≡ at m stockDirtyPlace) (count : at l′ countPlace ≡ at l countPlace + 1) {s : Slot} (coded : SlotCoded s (part m (slotPlace (at l countPlace)) slotSize)) where
-  number : (k : ℕ) → k < nextHandlePlace → at l′ k ≡ at l k
-  number k h = counted .same k (λ a b. omega arith) ∙ put .same k (λ a b. omega arith)
+module _ (l m l′ : List ℕ) (r : isRecord l ≡ true) (few : at l countPlace < 256) (put : Kept l (slotPlace (at l countPlace)) slotSize m) (counted : Kept m 0 headSize l′) (same : KeptBut m l′ nextHandlePlace countPlace)
+    {next : ℕ} (named : at l′ nextHandlePlace ≡ next) (count : at l′ countPlace ≡ at l countPlace + 1) {s : Slot} (coded : SlotCoded s (part m (slotPlace (at l countPlace)) slotSize)) where
+  number : KeptBut l l′ nextHandlePlace countPlace
+  number k h a b = same k h a b ∙ put .same k (λ x y. omega arith)
 
   stock : at l′ stockDirtyPlace ≡ at l stockDirtyPlace
-  stock = flag ∙ put .same stockDirtyPlace (λ a b. omega arith)
+  stock = number stockDirtyPlace (omega arith) (λ x. omega arith) (λ x. omega arith)
 
   screen : part l′ screenPlace dcSize ≡ part l screenPlace dcSize
   screen = part-kept counted screenPlace dcSize (λ j a b c d. omega arith) ∙ part-kept put screenPlace dcSize (λ j a b c d. omega arith)
@@ -72,14 +72,7 @@ module _ (l m l′ : List ℕ) (r : isRecord l ≡ true) (few : at l countPlace 
 
   seen : view l′ ≡ withObjects (view l) next (view l .count + 1) (inserted (view l .objects) (view l .count) s)
   unfolding view
-  seen = objects-seen l l′ screen kept named count table
-    where
-      kept : (k : ℕ) → k < headSize → (k ≡ nextHandlePlace → ⊥) → (k ≡ countPlace → ⊥) → at l′ k ≡ at l k
-      kept k h a b = by (ℕ-discrete k stockDirtyPlace)
-        where
-          by : Dec (k ≡ stockDirtyPlace) → at l′ k ≡ at l k
-          by (yes e) = rw e stock
-          by (no ne) = number k (omega arith)
+  seen = objects-seen l l′ screen number named count table
 
   rest : drop (slotPlace (view l .count + 1)) l′ ≡ drop (slotPlace (view l .count + 1)) l
   unfolding view
@@ -105,7 +98,7 @@ module _ (l : List ℕ) (r : isRecord l ≡ true) (few : at l countPlace < 256) 
 
     pub appended : {h n : ℕ} {o : GdiObject} → n ≡ ahead h 1 → SlotCoded (record { handle = h; object = o }) x
         → Stored l (addedAs (view l) h o) (set (set (slotBack l (at l countPlace) x) nextHandlePlace n) countPlace (at l countPlace + 1))
-    appended {h} {n} {o} e coded = grown l m l′ r few put-in counted (next ∙ e) flag count there
+    appended {h} {n} {o} e coded = grown l m l′ r few put-in counted same (next ∙ e) count there
       where
         m : List ℕ
         m = slotBack l (at l countPlace) x
@@ -113,14 +106,14 @@ module _ (l : List ℕ) (r : isRecord l ≡ true) (few : at l countPlace < 256) 
         l′ : List ℕ
         l′ = set (set m nextHandlePlace n) countPlace (at l countPlace + 1)
 
-        counted : Kept m nextHandlePlace 3 l′
-        counted = kept-set countPlace (at l countPlace + 1) (kept-set nextHandlePlace n (kept-all m nextHandlePlace 3) (omega arith) (omega arith)) (omega arith) (omega arith)
+        counted : Kept m 0 headSize l′
+        counted = kept-set countPlace (at l countPlace + 1) (kept-set nextHandlePlace n (kept-all m 0 headSize) (omega arith) (omega arith)) (omega arith) (omega arith)
 
         next : at l′ nextHandlePlace ≡ n
         next = getD-set-other (set m nextHandlePlace n) countPlace nextHandlePlace (at l countPlace + 1) 0 (λ z. omega arith) ∙ getD-set-same m nextHandlePlace n 0 (omega (arith, back-long))
 
-        flag : at l′ stockDirtyPlace ≡ at m stockDirtyPlace
-        flag = getD-set-other (set m nextHandlePlace n) countPlace stockDirtyPlace (at l countPlace + 1) 0 (λ z. omega arith) ∙ getD-set-other m nextHandlePlace stockDirtyPlace n 0 (λ z. omega arith)
+        same : KeptBut m l′ nextHandlePlace countPlace
+        same k b x y = getD-set-other (set m nextHandlePlace n) countPlace k (at l countPlace + 1) 0 y ∙ getD-set-other m nextHandlePlace k n 0 x
 
         count : at l′ countPlace ≡ at l countPlace + 1
         count = getD-set-same (set m nextHandlePlace n) countPlace (at l countPlace + 1) 0 (omega (arith, length-set m nextHandlePlace n, back-long))

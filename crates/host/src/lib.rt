@@ -1,6 +1,6 @@
-// The bench under C names, for hosts in other languages: the record as 3,605 numbers that the host keeps, a call as numbers, a
-// text's units as a slice, two lent memories. A slice is a pointer and a length there. None of these functions asks anything of
-// its caller.
+// The bench under C names, for hosts in other languages: the record as numbers that the host keeps, a call as numbers, a text's
+// units as a slice, two lent memories. A slice is a pointer and a length there. None of these functions asks anything of its
+// caller.
 ghost use mathlib.Core.Path.{_≡_};
 ghost use Prim.Native.Nat.{_*_};
 ghost use lib.ListN.{length};

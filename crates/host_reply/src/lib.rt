@@ -9,7 +9,7 @@ use plan::Answer;
 pub const NO_OBJECT: u32 = 5;
 
 // An answer: the number of a refusal, 0 if there is none; a handle, colour, alignment or advance; a flag, 0 or 1; a removed
-// object's kind and twelve numbers, as in a record.
+// object's kind and its numbers, as in a record.
 #[repr(C)]
 pub struct Reply {
     pub refusal: u32,

@@ -88,7 +88,7 @@ pub fn find_kind(l: &[u32], handle: u32) -> Kind
     }
 }
 
-// Puts d as the DC of this handle, which stands at spot. Only its twelve numbers are written.
+// Puts d as the DC of this handle, which stands at spot. Only its numbers are written.
 pub fn store_dc(l: &mut [u32], handle: u32, spot: Spot, d: Dc)
     requires { ⌜ isRecord (now l) ≡ true ⌝ }
     requires { ⌜ Spotted (view (now l)) handle spot ⌝ }

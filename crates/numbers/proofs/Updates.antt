@@ -1,15 +1,19 @@
--- Numbers of which one part changed are the record with that part changed. The numbers in front of the screen DC are gone through
--- here and nowhere else. Assumes nothing.
+-- Numbers of which one part changed are the record, or the bitmap, with that part changed. The numbers in front of the screen DC
+-- and those of a bitmap are gone through here and nowhere else. Assumes nothing.
+use mathlib.Core.Bool.{true}
 use mathlib.Core.List.{List}
-use mathlib.Core.Path.{_≡_}
-use Prim.Native.Nat.{ℕ, _+_, _*_, _<_}
+use mathlib.Core.Path.{_≡_, _∙_, ap}
+use Prim.Native.Nat.{ℕ, _+_, _-_, _*_, _<_}
 use native.Mathlib.Omega.{arith}
+use lib.Dec.{eqb}
+use Rattle.laws.proofs.Test.{both, all-same}
 use Rattle.words.specs.Parts.{part}
 use Rattle.gdi.specs.declared.Dc.{Dc}
+use Rattle.gdi.specs.declared.GdiObject.the-variants.{Bitmap}
 use Rattle.gdi.specs.declared.Slot.{Slot}
-use Rattle.gdi.specs.Updates.{withSides, withFrames, withStockDirty, withObjects, withScreen}
-use Rattle.numbers.specs.Layout.{dcSize, headSize, panelLenPlace, storeLenPlace, widthPlace, heightPlace, framesLowPlace, framesHighPlace, nextHandlePlace, stockDirtyPlace, countPlace, screenPlace}
-use Rattle.numbers.specs.Block.{at, dcOf}
+use Rattle.gdi.specs.Updates.{withSides, withFrames, withStockDirty, withObjects, withScreen, withHostDirty}
+use Rattle.numbers.specs.Layout.{dcSize, objectSize, headSize, panelLenPlace, storeLenPlace, widthPlace, heightPlace, framesLowPlace, framesHighPlace, nextHandlePlace, stockDirtyPlace, countPlace, screenPlace, bitmapWidthIn, bitmapHeightIn, bitmapDirtyIn, bitmapSize}
+use Rattle.numbers.specs.Block.{at, isFlag, dcOf, bitmapFields, objectOf, zerosFrom, isObject, ObjectCoded}
 use Rattle.numbers.specs.View.{tableOf, view}
 
 module _ (l l′ : List ℕ) where
@@ -103,3 +107,20 @@ module _ (l l′ : List ℕ) where
         kept stockDirtyPlace (omega arith) (λ x. omega arith) (λ x. omega arith),
         kept countPlace (omega arith) (λ x. omega arith) (λ x. omega arith),
       )
+
+-- a bitmap's numbers, of which the dirty mark became 1
+pub bitmap-marked : (xs ys : List ℕ) → ((k : ℕ) → k < objectSize → (k ≡ bitmapDirtyIn → ⊥) → at xs k ≡ at ys k) → at xs bitmapDirtyIn ≡ 1 → isObject 1 ys ≡ true → ObjectCoded (Bitmap (withHostDirty (bitmapFields ys))) 1 xs
+unfolding objectOf isObject
+bitmap-marked xs ys kept mark good =
+    record {
+      is-object =
+          rw mark
+          (all-same (objectSize - bitmapSize) (λ j. eqb (at xs (bitmapSize + j)) 0) (λ j. eqb (at ys (bitmapSize + j)) 0) (λ j lt. ap (λ (v : ℕ). eqb v 0) (kept (bitmapSize + j) (omega arith) (λ x. omega arith)))
+          ∙ both (isFlag (at ys bitmapDirtyIn)) (zerosFrom ys bitmapSize) good .1);
+      same =
+          rw (
+            mark,
+            kept bitmapWidthIn (omega arith) (λ x. omega arith),
+            kept bitmapHeightIn (omega arith) (λ x. omega arith),
+          );
+    }

@@ -17,7 +17,7 @@ use Rattle.numbers.specs.Layout.{slotSize, countPlace, slotPlace}
 use Rattle.numbers.specs.Block.{at, bit, slotOf}
 use Rattle.numbers.specs.View.{tableFrom, slotIn, view}
 
--- the nine numbers of the bench, by the record
+-- the numbers in front of the screen DC, by the record
 abbrev pub benchNumbers : GdiState → List ℕ
 benchNumbers b =
     b .«panel_len» ∷ b .«store_len» ∷ b .width ∷ b .height ∷ b .«frame_counter» % 4294967296 ∷ b .«frame_counter» / 4294967296 ∷ b .«next_handle»

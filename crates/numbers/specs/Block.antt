@@ -53,7 +53,7 @@ abbrev pub bitmapNumber : SelectedBitmap → ℕ
 bitmapNumber Unset = 0
 bitmapNumber (Chosen h) = h
 
--- A DC is twelve numbers: surface, bitmap present, bitmap, brush, pen, font, brush colour, pen colour, text colour, alignment,
+-- The numbers of a DC: surface, bitmap present, bitmap, brush, pen, font, brush colour, pen colour, text colour, alignment,
 -- background colour, transparent.
 unfoldable pub dcOf : List ℕ → Dc
 dcOf l =
@@ -79,7 +79,7 @@ isDc l = isFlag (at l surfaceIn) && (isFlag (at l bkTransparentIn) && (flagOf (a
 abbrev pub bitmapFields : List ℕ → BitmapRecord
 bitmapFields l = record { width = at l bitmapWidthIn; height = at l bitmapHeightIn; «host_dirty» = flagOf (at l bitmapDirtyIn) }
 
--- An object is its kind's number and twelve numbers. Kinds are 0 DC, 1 bitmap, 2 brush, 3 pen, 4 font. A bitmap is width,
+-- An object is its kind's number and as many numbers as a DC has. Kinds are 0 DC, 1 bitmap, 2 brush, 3 pen, 4 font. A bitmap is width,
 -- height and dirty; a brush is colour; a pen colour and width; a font height in two's complement.
 unfoldable pub objectOf : (kind : ℕ) → List ℕ → GdiObject
 objectOf kind l =
@@ -89,7 +89,7 @@ objectOf kind l =
     cond (eqb kind 3) (Pen (record { color = record { 0 = at l colorIn }; width = at l penWidthIn }))
     (Font (record { height = signed32 (at l fontHeightIn) })))))
 
--- the numbers from k to the twelfth are 0
+-- an object's numbers from k on are 0
 abbrev pub zerosFrom : List ℕ → ℕ → Bool
 zerosFrom l k = allBelow (objectSize - k) (λ j. eqb (at l (k + j)) 0)
 
@@ -102,7 +102,7 @@ isObject kind l =
     cond (eqb kind 3) (zerosFrom l penSize) (
     eqb kind 4 && zerosFrom l fontSize))))
 
--- A slot is fourteen numbers: handle, kind, and the object's twelve.
+-- The numbers of a slot: handle, kind, and the object's.
 abbrev pub slotOf : List ℕ → Slot
 slotOf l = record { handle = at l handlePlace; object = objectOf (at l kindPlace) (part l objectPlace objectSize) }
 

@@ -1,7 +1,7 @@
 -- The layout of a record's numbers: how many each part has, and where it stands. The constants in src/ are these.
 use Prim.Native.Nat.{ℕ, _+_, _*_}
 
--- a DC has twelve numbers; an object has as many as the largest, a DC
+-- how many numbers a DC has; an object has as many as the largest, a DC
 abbrev pub dcSize : ℕ
 dcSize = 12
 
@@ -21,7 +21,7 @@ objectPlace = 2
 abbrev pub slotSize : ℕ
 slotSize = objectPlace + objectSize
 
--- a record has nine numbers in front of its screen DC, and 256 slots behind it
+-- how many numbers a record has in front of its screen DC; 256 slots stand behind it
 abbrev pub headSize : ℕ
 headSize = 9
 

@@ -1,5 +1,4 @@
--- Which bench record flat numbers are. There are 3,605 of them: 9 of the bench, 12 of the screen DC, and 14 for each of 256
--- slots.
+-- Which bench record flat numbers are. How many there are, and where each stands, is in Layout.antt.
 use mathlib.Core.Bool.{Bool, true, cond, _&&_}
 use mathlib.Core.List.{List, [], _∷_}
 use mathlib.Core.Path.{_≡_}

@@ -87,8 +87,8 @@ fn is_dc(l: &[u32]) -> bool
     l[BITMAP] == 0
 }
 
-// Whether the numbers from k to the twelfth are 0. All their bits at once tell, which is faster than to stop at the first number
-// that is not.
+// Whether an object's numbers from k on are 0. All their bits at once tell, which is faster than to stop at the first number that
+// is not.
 fn zeros_from(l: &[u32], k: usize) -> bool
     requires { ⌜ (k ≤ objectSize) × (objectSize ≤ length (now l)) ⌝ }
     ensures { λ r. ⌜ r ≡ zerosFrom (now (l .entry)) k ⌝ }
