@@ -457,16 +457,20 @@ fn refusals_tell_their_meaning() {
 }
 
 #[test]
-fn a_call_needs_less_than_half_a_mebibyte_of_stack() {
-    let small = std::thread::Builder::new().stack_size(512 * 1024);
-    let drawn = small.spawn(|| {
-        let (mut bench, [dc, ..]) = bench();
-        for call in calls() {
-            bench.perform(&call, &[0x41; 9]);
-        }
-        bench.blit(SCREEN_DC, AREA, dc, AT, 0x00B8_074A)?;
-        bench.blit(dc, AREA, dc, Point { x: 1, y: 1 }, rop3::SRCCOPY)?;
-        bench.remove(dc).map(|_| ())
+fn a_call_needs_less_than_32_kib_of_stack() {
+    let (mut bench, [dc, ..]) = bench();
+    let calls = calls();
+    let drawn = std::thread::scope(|scope| {
+        let small = std::thread::Builder::new().stack_size(32 * 1024);
+        let calling = small.spawn_scoped(scope, || {
+            for call in &calls {
+                bench.perform(call, &[0x41; 9]);
+            }
+            bench.blit(SCREEN_DC, AREA, dc, AT, 0x00B8_074A)?;
+            bench.blit(dc, AREA, dc, Point { x: 1, y: 1 }, rop3::SRCCOPY)?;
+            bench.remove(dc).map(|_| ())
+        });
+        calling.expect("a thread").join().expect("no fault")
     });
-    assert_eq!(drawn.expect("a thread").join().expect("no fault"), Ok(()));
+    assert_eq!(drawn, Ok(()));
 }
