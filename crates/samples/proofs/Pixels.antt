@@ -1,6 +1,6 @@
 -- The bytes of a pixel, as they are stored. Assumes nothing.
 use mathlib.Core.List.{List, [], _∷_}
-use mathlib.Core.Path.{_≡_, refl, _∙_}
+use mathlib.Core.Path.{_≡_, refl, _∙_, ap}
 use Prim.Native.Nat.{ℕ, suc, _+_, _*_, _/_, _%_, _<_}
 use native.Mathlib.Omega.{arith}
 use lib.ListN.{length, set, length-append}
@@ -12,7 +12,7 @@ use Rattle.p6.specs.Put.{put}
 use Rattle.samples.specs.Samples.{rgb, rgba, samplesOf, rgbaOf, ppmOf}
 use Rattle.p6.specs.P6.{header, picture, read}
 use Rattle.p6.proofs.P6.{read-back}
-use Rattle.p6.proofs.Put.{stored, length-joined}
+use Rattle.p6.proofs.Put.{stored, stored-behind, length-joined}
 
 -- three bytes stored, and four
 put-three : (m : List ℕ) (p x y z : ℕ) → p + 2 < length m → set (set (set m p x) (p + 1) y) (p + 2) z ≡ put m p (x ∷ y ∷ z ∷ [])
@@ -23,10 +23,7 @@ put-three m p x y z h =
 
 put-four : (m : List ℕ) (p w x y z : ℕ) → p + 3 < length m → set (set (set (set m p w) (p + 1) x) (p + 2) y) (p + 3) z ≡ put m p (w ∷ x ∷ y ∷ z ∷ [])
 put-four m p w x y z h =
-    let one : p + 1 ≡ suc p = omega arith in
-    let two : p + 2 ≡ suc (suc p) = omega arith in
-    let three : p + 3 ≡ suc (suc (suc p)) = omega arith in
-    rw (one, two, three) (stored (w ∷ x ∷ y ∷ z ∷ []) m p (omega arith))
+    ap (λ (l : List ℕ). set l (p + 3) z) (put-three m p w x y (omega arith)) ∙ stored-behind (w ∷ x ∷ y ∷ []) (z ∷ []) m p (omega arith)
 
 -- the channels of a word's COLORREF
 module _ (m : List ℕ) (at v : ℕ) where
