@@ -1,8 +1,8 @@
 -- Delete and remove: the object that is found, as the code reads it, and the cases of their plans. Assumes nothing.
 use mathlib.Core.Bool.{true, false}
 use mathlib.Core.List.{List}
-use mathlib.Core.Path.{_≡_, refl, sym, _∙_}
-use Prim.Native.Nat.{ℕ, _+_, _*_, _-_, _<_}
+use mathlib.Core.Path.{_≡_, sym, _∙_}
+use Prim.Native.Nat.{ℕ, _+_, _-_, _<_}
 use native.Mathlib.Omega.{arith}
 use Rattle.words.specs.Parts.{part}
 use Rattle.gdi.specs.declared.GdiState.{GdiState}
@@ -12,11 +12,10 @@ use Rattle.gdi.specs.declared.GdiObject.{GdiObject}
 use Rattle.gdi.specs.Record.{bytesOf}
 use Rattle.gdi.specs.Stock.{isStock}
 use Rattle.gdi.specs.Lookup.{objectAt, findOf}
-use Rattle.gdi.proofs.Scan.{found-count}
 use Rattle.numbers.specs.Layout.{objectSize, slotSize, countPlace, slotPlace, kindPlace, objectPlace}
 use Rattle.numbers.specs.Block.{at, objectOf}
 use Rattle.numbers.specs.View.{view, isRecord, Stored}
-use Rattle.numbers.proofs.Seen.{count-seen, object-seen}
+use Rattle.numbers.proofs.Seen.{object-seen}
 use Rattle.sound.specs.Sound.{startOf, used}
 use Rattle.memory.specs.Gap.{closedUp}
 use Rattle.removal.specs.Removal.{withoutAt}
@@ -27,10 +26,6 @@ use Rattle.plan.specs.Plan.{told}
 use Rattle.plan.specs.Delete.{goneAt, goes}
 use Rattle.plan.specs.Followed.{Followed}
 use Rattle.plan.proofs.Followed.{acceptance}
-
--- the slot that is found holds an object
-pub found-in : (l : List ℕ) (h : ℕ) {q : Found} → q ≡ findOf (view l) h → {i : ℕ} → q ≡ At i → i < at l countPlace
-found-in l h e g = rw (count-seen l) at (found-count (view l) h (sym e ∙ g))
 
 module _ (l : List ℕ) (r : isRecord l ≡ true) (i : ℕ) (lt : i < at l countPlace) where
   -- the object as the code reads it

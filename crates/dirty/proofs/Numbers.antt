@@ -8,31 +8,21 @@ use lib.ListN.{length, set, length-set}
 use lib.Seq.{getD-set-same, getD-set-other}
 use Rattle.words.specs.Parts.{part}
 use Rattle.gdi.specs.declared.GdiState.{GdiState}
-use Rattle.gdi.specs.declared.Found.the-variants.{At}
 use Rattle.gdi.specs.declared.GdiObject.{GdiObject}
 use Rattle.gdi.specs.declared.GdiObject.the-variants.{Bitmap as BitmapOf}
-use Rattle.gdi.specs.Lookup.{slotAt, handleAt, objectAt, findOf}
+use Rattle.gdi.specs.Lookup.{slotAt, handleAt, objectAt}
 use Rattle.gdi.specs.Updates.{withStockDirty, withObjects}
-use Rattle.gdi.proofs.Scan.{found-count}
 use Rattle.numbers.specs.Layout.{dcSize, objectSize, slotSize, framesLowPlace, framesHighPlace, stockDirtyPlace, countPlace, screenPlace, slotPlace, handlePlace, kindPlace, objectPlace, bitmapDirtyPlace, bitmapDirtyIn}
 use Rattle.numbers.specs.Block.{bitmapFields, at, isDc, isObject, slotOf, ObjectCoded, SlotCoded}
 use Rattle.numbers.specs.View.{view, isRecord, Stored}
 use Rattle.numbers.proofs.Record.{parts}
-use Rattle.numbers.proofs.Seen.{count-seen, handle-seen, object-seen, object-bitmap, object-part, part-at, by-kind}
+use Rattle.numbers.proofs.Seen.{handle-seen, object-seen, object-bitmap, object-part, part-at, by-kind}
 use Rattle.numbers.proofs.View.{slot-seen}
 use Rattle.place.specs.declared.SurfaceId.{SurfaceId}
 use Rattle.dirty.specs.Dirty.{objectDirtied, slotDirtied, framed, dirtied, dirtiedIf}
 use Rattle.numbers.proofs.Updates.{frames-seen, stock-seen as stock-same, bitmap-marked}
-use Rattle.numbers.proofs.Kept.{Kept, kept-all, kept-set, part-kept, table-kept, front-record, front-rest, slot-stored}
+use Rattle.numbers.proofs.Kept.{stored-same, Kept, kept-all, kept-set, part-kept, table-kept, front-record, front-rest, slot-stored}
 use Rattle.lookup.proofs.Stores.{slot-from}
-
--- nothing done
-pub nothing-done : (l : List ℕ) → isRecord l ≡ true → Stored l (view l) l
-nothing-done l r = record { is-record = r; same = refl; rest = refl }
-
--- the slot that is found holds an object
-pub found-in : (l : List ℕ) (h : ℕ) {i : ℕ} → findOf (view l) h ≡ At i → i < at l countPlace
-found-in l h e = rw (count-seen l) at (found-count (view l) h e)
 
 -- a record that is the same as another
 pub stored-as : {l l′ : List ℕ} {b b′ : GdiState} → b ≡ b′ → Stored l b l′ → Stored l b′ l′
@@ -45,7 +35,7 @@ due-stored b s e h = rw e h
 
 pub undue-stored : (l : List ℕ) (s : SurfaceId) {due : Bool} → isRecord l ≡ true → due ≡ false → Stored l (dirtiedIf due s (view l)) l
 unfolding dirtiedIf
-undue-stored l s r e = rw e (nothing-done l r)
+undue-stored l s r e = rw e (stored-same r)
 
 module _ (l l′ : List ℕ) (r : isRecord l ≡ true) where
   -- a number of the bench, apart from the count

@@ -1,10 +1,8 @@
 -- Which call numbers are.
-use mathlib.Core.Bool.{cond, _&&_}
-use Prim.Native.Nat.{ℕ}
+use mathlib.Core.Bool.{cond}
 use lib.Dec.{eqb, leb}
 use Rattle.plan.specs.declared.Area.{Area}
 use Rattle.plan.specs.declared.Point.{Point}
-use Rattle.plan.specs.declared.Call.{Call}
 use Rattle.plan.specs.declared.Call.the-variants.{CreateMemoryDc, CreateCompatibleBitmap, CreateSolidBrush, CreatePen, CreateFont, Delete, Remove, SelectInto, SetTextColor, SetTextAlign, SetBkColor, SetBkMode, PatternFill, Rectangle, Text, PanelFill, Resize, Blit}
 use Rattle.host_call.specs.declared.HostCall.{HostCall}
 use Rattle.host_call.specs.declared.CallRead.{CallRead}

@@ -15,12 +15,12 @@ use Rattle.gdi.specs.declared.Found.{Found}
 use Rattle.gdi.specs.declared.Found.the-variants.{At}
 use Rattle.gdi.specs.declared.DcFound.the-variants.{Is, Absent}
 use Rattle.gdi.specs.Lookup.{scan, findOf, dcAt, dcOf, kindAt, kindOf}
-use Rattle.gdi.proofs.Scan.{start, found-count}
+use Rattle.gdi.proofs.Scan.{start}
 use Rattle.gdi.proofs.Lookup.{dc-screen, dc-created}
 use Rattle.numbers.specs.Layout.{dcSize, objectSize, slotSize, countPlace, screenPlace, slotPlace, kindPlace, objectPlace}
 use Rattle.numbers.specs.Block.{at, objectOf, dcOf as dcNumbers}
 use Rattle.numbers.specs.View.{view, isRecord}
-use Rattle.numbers.proofs.Seen.{count-seen, screen-seen, record-length, record-count, object-seen, object-dc, by-kind}
+use Rattle.numbers.proofs.Seen.{count-seen, found-in, screen-seen, record-length, record-count, object-seen, object-dc, by-kind}
 
 -- the scan as the loop starts it
 pub scan-start : (l : List ℕ) (h : ℕ) → scan (view l .objects) h 0 (at l countPlace - 0) ≡ findOf (view l) h
@@ -33,7 +33,7 @@ dc-of-screen l h e f = ap (Is Screen) (f ∙ sym (screen-seen l)) ∙ dc-screen 
 -- an object's slot that is found
 module _ (l : List ℕ) (r : isRecord l ≡ true) (h : ℕ) {q : Found} (e : q ≡ findOf (view l) h) {i : ℕ} (g : q ≡ At i) where
   below : i < at l countPlace
-  below = rw (count-seen l) at (found-count (view l) h (sym e ∙ g))
+  below = found-in l h (sym e ∙ g)
 
   pub found-room : slotPlace i + slotSize ≤ length l
   found-room = omega (arith, below, record-count l r, record-length l r)

@@ -17,13 +17,13 @@ use Rattle.gdi.specs.declared.GdiObject.{GdiObject}
 use Rattle.gdi.specs.declared.GdiObject.the-variants.{Dc as DcOf}
 use Rattle.gdi.specs.Lookup.{objectAt, findOf}
 use Rattle.gdi.specs.Updates.{withScreen, storeOf}
-use Rattle.gdi.proofs.Scan.{found-count, scan-handle, dc-found}
+use Rattle.gdi.proofs.Scan.{scan-handle, dc-found}
 use Rattle.numbers.specs.Layout.{dcSize, objectSize, slotSize, headSize, stockDirtyPlace, countPlace, screenPlace, slotPlace, handlePlace, kindPlace, objectPlace}
 use Rattle.numbers.specs.Block.{at, DcCoded, ObjectCoded, SlotCoded}
 use Rattle.numbers.specs.View.{view, isRecord, Stored}
 use Rattle.numbers.proofs.Block.{lentBack, lent-back, dc-object}
 use Rattle.numbers.proofs.Record.{parts}
-use Rattle.numbers.proofs.Seen.{count-seen, handle-seen, object-seen, object-part, part-at, by-kind}
+use Rattle.numbers.proofs.Seen.{found-in, handle-seen, object-seen, object-part, part-at, by-kind}
 use Rattle.lookup.specs.Spotted.{Spotted}
 use Rattle.numbers.proofs.Updates.{screen-seen as screen-same}
 use Rattle.numbers.proofs.Kept.{Kept, kept-part, table-kept, front-record, front-rest, slot-stored}
@@ -63,7 +63,7 @@ module _ (l : List ℕ) (r : isRecord l ≡ true) where
     found = dc-found (view l) h (s .found ∙ ap (λ (q : Spot). Is q (s .dc)) e)
 
     pub spot-below : i < at l countPlace
-    spot-below = rw (count-seen l) at (found-count (view l) h (found .0))
+    spot-below = found-in l h (found .0)
 
     handle : at l (slotPlace i) ≡ h
     handle = sym (handle-seen l r i spot-below) ∙ scan-handle (view l .objects) h 0 (view l .count) (found .0)

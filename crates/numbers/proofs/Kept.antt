@@ -24,6 +24,10 @@ use Rattle.numbers.proofs.Seen.{part-at}
 use Rattle.numbers.proofs.Updates.{objects-seen}
 use Rattle.numbers.proofs.View.{table-same, table-set}
 
+-- numbers that are a record are it
+pub stored-same : {l : List ℕ} → isRecord l ≡ true → Stored l (view l) l
+stored-same r = record { is-record = r; same = refl; rest = refl }
+
 -- all but the n numbers from p on are kept
 pub record Kept (l : List ℕ) (p n : ℕ) (l′ : List ℕ) : Type 0 where
   pub long : length l′ ≡ length l

@@ -15,7 +15,9 @@ use Rattle.gdi.specs.declared.Pen.{Pen as PenRecord}
 use Rattle.gdi.specs.declared.Font.{Font as FontRecord}
 use Rattle.gdi.specs.declared.GdiObject.{GdiObject}
 use Rattle.gdi.specs.declared.GdiObject.the-variants.{Dc as DcOf, Bitmap, Brush, Pen, Font}
-use Rattle.gdi.specs.Lookup.{handleAt, objectAt}
+use Rattle.gdi.specs.declared.Found.the-variants.{At}
+use Rattle.gdi.specs.Lookup.{handleAt, objectAt, findOf}
+use Rattle.gdi.proofs.Scan.{found-count}
 use Rattle.numbers.specs.Layout.{dcSize, objectSize, slotSize, recordSize, panelLenPlace, storeLenPlace, widthPlace, heightPlace, countPlace, screenPlace, slotPlace, handlePlace, kindPlace, objectPlace, bitmapHeightPlace, bitmapHeightIn, colorIn, penWidthIn, fontHeightIn}
 use Rattle.numbers.specs.Block.{bitmapFields, at, dcOf, objectOf}
 use Rattle.numbers.specs.View.{view, isRecord}
@@ -62,6 +64,10 @@ module _ (l : List ℕ) where
   pub count-seen : view l .count ≡ at l countPlace
   unfolding view
   count-seen = refl
+
+  -- a handle is found in a slot of an object
+  pub found-in : (h : ℕ) {i : ℕ} → findOf (view l) h ≡ At i → i < at l countPlace
+  found-in h e = rw count-seen at (found-count (view l) h e)
 
   pub screen-seen : view l .screen ≡ dcOf (part l screenPlace dcSize)
   unfolding view

@@ -79,8 +79,8 @@ isDc l = isFlag (at l surfaceIn) && (isFlag (at l bkTransparentIn) && (flagOf (a
 abbrev pub bitmapFields : List ℕ → BitmapRecord
 bitmapFields l = record { width = at l bitmapWidthIn; height = at l bitmapHeightIn; «host_dirty» = flagOf (at l bitmapDirtyIn) }
 
--- An object is its kind's number and as many numbers as a DC has. Kinds are 0 DC, 1 bitmap, 2 brush, 3 pen, 4 font. A bitmap is width,
--- height and dirty; a brush is colour; a pen colour and width; a font height in two's complement.
+-- An object is its kind's number and as many numbers as a DC has. Kinds are 0 DC, 1 bitmap, 2 brush, 3 pen, 4 font. A bitmap is
+-- width, height and dirty; a brush is colour; a pen colour and width; a font height in two's complement.
 unfoldable pub objectOf : (kind : ℕ) → List ℕ → GdiObject
 objectOf kind l =
     cond (eqb kind 0) (DcOf (dcOf l)) (

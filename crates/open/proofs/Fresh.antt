@@ -13,7 +13,7 @@ use Rattle.words.proofs.Parts.{length-part, length-with, with-before, with-with
 use Rattle.gdi.specs.declared.Dc.{Dc}
 use Rattle.gdi.specs.Record.{noSlot, vacantSlot, screenDc, fresh}
 use Rattle.numbers.specs.Layout.{dcSize, slotSize, headSize, recordSize, panelLenPlace, storeLenPlace, widthPlace, heightPlace, framesLowPlace, framesHighPlace, nextHandlePlace, stockDirtyPlace, countPlace, screenPlace, slotsPlace, slotPlace}
-use Rattle.numbers.specs.Block.{at, flagOf, isFlag, dcOf, isDc, slotOf, isSlot, DcCoded}
+use Rattle.numbers.specs.Block.{at, isFlag, isDc, slotOf, isSlot, DcCoded}
 use Rattle.numbers.specs.View.{slotIn, tableOf, view, isRecord, Stored}
 use Rattle.numbers.proofs.Block.{lentBack, lent-back}
 use Rattle.numbers.proofs.View.{length-table, table-slot}

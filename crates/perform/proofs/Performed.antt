@@ -1,19 +1,18 @@
 -- From the common refusals, and from what a called function ensures, to a call performed. Assumes nothing.
 use mathlib.Core.Bool.{Bool, true, false, cond}
 use mathlib.Core.List.{List}
-use mathlib.Core.Path.{_≡_, refl, sym, _∙_, ap}
+use mathlib.Core.Path.{_≡_, _∙_}
 use Prim.Native.Nat.{ℕ}
 use lib.Dec.{eqb}
 use lib.ListN.{length}
-use borrow.Author.Tests.{eq-eqb, ne-eqb}
-use Rattle.gdi.specs.declared.GdiState.{GdiState}
+use borrow.Author.Tests.{ne-eqb}
 use Rattle.numbers.specs.View.{view, isRecord}
 use Rattle.ready.specs.Ready.{commonRefusal, commonRefusalOn, Lent}
 use Rattle.ready.proofs.Ready.{looks, lent}
 use Rattle.paint.specs.Memories.{Memories}
 use Rattle.plan.specs.declared.Call.{Call}
 use Rattle.plan.specs.Answer.{Parts, refused}
-use Rattle.plan.specs.Plan.{Plan, refuse}
+use Rattle.plan.specs.Plan.{refuse}
 use Rattle.plan.specs.Calls.{act, plan, planOn}
 use Rattle.plan.specs.Followed.{Followed, Performed}
 use Rattle.plan.proofs.Followed.{followed-as, refusal-of-any}

@@ -7,6 +7,7 @@ use lib.ListN.{drop}
 use Rattle.gdi.specs.declared.GdiState.{GdiState}
 use Rattle.numbers.specs.Layout.{slotPlace}
 use Rattle.numbers.specs.View.{view, isRecord, Stored}
+use Rattle.numbers.proofs.Kept.{stored-same}
 use Rattle.paint.specs.Memories.{Memories}
 use Rattle.paint.specs.Paint.{after}
 use Rattle.plan.specs.Answer.{Parts, refused}
@@ -14,10 +15,6 @@ use Rattle.plan.specs.Plan.{Outcome, Plan, told, refuse}
 use Rattle.plan.specs.Stroke.{Stroke, drawnBy, Stroked}
 use Rattle.plan.specs.Followed.{Followed, StrokedOn}
 use Rattle.plan.proofs.Strokes.{dirtied-by-count, stroked-then}
-
--- numbers that are a record are it
-pub stored-same : {l : List ℕ} → isRecord l ≡ true → Stored l (view l) l
-stored-same r = record { is-record = r; same = refl; rest = refl }
 
 -- stored twice, with as many objects
 pub stored-twice : {l l₁ l′ : List ℕ} {b₁ b : GdiState} → b .count ≡ b₁ .count → Stored l b₁ l₁ → Stored l₁ b l′ → Stored l b l′

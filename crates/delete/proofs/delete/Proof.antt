@@ -1,7 +1,8 @@
 -- `delete::delete` meets its contract. Assumes nothing.
 use mathlib.Core.Path.{refl, sym, _∙_}
+use Rattle.numbers.proofs.Seen.{found-in}
 use Rattle.plan.proofs.Followed.{acceptance-same}
-use Rattle.delete.proofs.Gone.{found-in, stays, is-none, leaves, gone-followed}
+use Rattle.delete.proofs.Gone.{stays, is-none, leaves, gone-followed}
 use borrow.Author.Needs.{needs}
 use Rattle.delete.proofs.delete.Statement.{statement}
 use Rattle.delete.proofs.delete.Tie as tie
@@ -23,7 +24,7 @@ take-out-requires c κs =
     let i = c .before .before .before in
     let f = i .before .before in
     let s = f .before .before .before .before .before .before in
-    (s .pre .is-record, (s .pre .ready .sound, (found-in (s .args .l .now) _ (f .find .ensures) (i .i .given .1), s .pre .ready .store)))
+    (s .pre .is-record, (s .pre .ready .sound, (found-in (s .args .l .now) _ (sym (f .find .ensures) ∙ i .i .given .1), s .pre .ready .store)))
 
 enum-told : tie.Need-enum-told
 enum-told c = search needs

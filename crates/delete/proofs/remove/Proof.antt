@@ -1,10 +1,11 @@
 -- `delete::remove` meets its contract. Assumes nothing.
 use mathlib.Core.Path.{refl, sym, _∙_, ap}
 use native.Mathlib.Omega.{arith}
+use Rattle.numbers.proofs.Seen.{found-in}
 use Rattle.lookup.proofs.Found.{found-room}
 use Rattle.plan.specs.Answer.{removed}
 use Rattle.plan.proofs.Followed.{acceptance-same}
-use Rattle.delete.proofs.Gone.{found-in, object-read, stays, is-none, leaves, gone-followed}
+use Rattle.delete.proofs.Gone.{object-read, stays, is-none, leaves, gone-followed}
 use borrow.Author.Needs.{needs}
 use Rattle.delete.proofs.remove.Statement.{statement}
 use Rattle.delete.proofs.remove.Tie as tie
@@ -98,7 +99,7 @@ take-out-requires c κs =
     let i = c .before .before .before .before .before .before .before in
     let f = i .before .before in
     let s = f .before .before .before .before .before .before in
-    (s .pre .is-record, (s .pre .ready .sound, (found-in (s .args .l .now) _ (f .find .ensures) (i .i .given .1), s .pre .ready .store)))
+    (s .pre .is-record, (s .pre .ready .sound, (found-in (s .args .l .now) _ (sym (f .find .ensures) ∙ i .i .given .1), s .pre .ready .store)))
 
 enum-told : tie.Need-enum-told
 enum-told c = search needs
@@ -119,7 +120,7 @@ returns-2 c =
     let b = a .before in
     let s = b .before .before .before in
     gone-followed _ _ _ (s .args .l .now) _ (leaves _ _ _ _ _ (sym (b .is-stock-handle .ensures) ∙ a .if1 .left) (f .find .ensures) (i .i .given .1))
-    (ap removed (object-read (s .args .l .now) (s .pre .is-record) _ (found-in (s .args .l .now) _ (f .find .ensures) (i .i .given .1)) (o .object-of .ensures))) refl
+    (ap removed (object-read (s .args .l .now) (s .pre .is-record) _ (found-in (s .args .l .now) _ (sym (f .find .ensures) ∙ i .i .given .1)) (o .object-of .ensures))) refl
     (t .take-out .ensures .0) (t .take-out .ensures .1)
 
 same-length-3 : tie.Need-same-length-3

@@ -1,9 +1,10 @@
 -- `dirty::mark_dirty` meets its contract. Assumes nothing.
 use mathlib.Core.Path.{refl}
 use native.Mathlib.Omega.{arith}
-use Rattle.numbers.proofs.Seen.{record-length}
+use Rattle.numbers.proofs.Seen.{found-in, record-length}
+use Rattle.numbers.proofs.Kept.{stored-same}
 use Rattle.dirty.proofs.Marks.{mark-panel, mark-stock, slot-found, mark-found, mark-none}
-use Rattle.dirty.proofs.Numbers.{nothing-done, found-in, stored-as, stock-set}
+use Rattle.dirty.proofs.Numbers.{stored-as, stock-set}
 use borrow.Author.Needs.{needs}
 use Rattle.dirty.proofs.mark_dirty.Statement.{statement}
 use Rattle.dirty.proofs.mark_dirty.Tie as tie
@@ -63,7 +64,7 @@ returns-4 c =
     let i = c .before .before in
     let a = i .before .before in
     let s = a .before .before .before in
-    stored-as (mark-none _ (a .id .given .1) (i .if1 .left) (slot-found _ (a .id .given .1) (i .if1 .left) (s .pre .1) (c .enum-told2 .given .1))) (nothing-done _ (s .pre .0))
+    stored-as (mark-none _ (a .id .given .1) (i .if1 .left) (slot-found _ (a .id .given .1) (i .if1 .left) (s .pre .1) (c .enum-told2 .given .1))) (stored-same (s .pre .0))
 
 pub mark-dirty-spec : {M : Type 1} → statement M
 mark-dirty-spec =
