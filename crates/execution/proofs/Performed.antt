@@ -1,11 +1,10 @@
--- A call that the code performed on a record lent as numbers is the claim's step on the record that they are. Assumes nothing.
+-- A call that the code performed on a record lent as numbers is the step of the device that they are. Assumes nothing.
 use mathlib.Core.Bool.{true}
 use mathlib.Core.List.{List}
 use mathlib.Core.Path.{_≡_, sym, _∙_, ap, ap₂}
 use Prim.Native.Nat.{ℕ}
 use native.Mathlib.Decide.{ℕ-discrete}
 use lib.ListN.{length}
-use Rattle.gdi.specs.declared.GdiState.{GdiState}
 use Rattle.numbers.specs.View.{view, isRecord}
 use Rattle.paint.specs.Memories.{Memories}
 use Rattle.plan.specs.Answer.{Parts}
@@ -13,20 +12,17 @@ use Rattle.plan.specs.Plan.{Plan}
 use Rattle.plan.specs.Calls.{planOn}
 use Rattle.plan.specs.Followed.{Performed}
 use Rattle.plan.proofs.Refusal.{refusals-keep}
-use Rattle.noninterference.specs.Claim.{Bench, Invocation, planFor, answer, step}
-
-abbrev bench : GdiState → Memories → Bench
-bench b ms = record { state = b; memories = ms }
+use Rattle.execution.specs.Execution.{device, Invocation, planFor, answer, step}
 
 module _ (c : Invocation) (l : List ℕ) (ms : Memories) (good : isRecord l ≡ true) {a : Parts} {l′ : List ℕ} {ms′ : Memories} (p : Performed (c .call) (c .units) l ms a l′ ms′) where
-  plan-is : planOn (c .call) (c .units) l (length (ms .panel)) (length (ms .store)) ≡ planFor c (bench (view l) ms)
+  plan-is : planOn (c .call) (c .units) l (length (ms .panel)) (length (ms .store)) ≡ planFor c (device (view l) ms)
   unfolding planOn
   plan-is = rw good
 
-  answer-is : a ≡ answer c (bench (view l) ms) .answer
+  answer-is : a ≡ answer c (device (view l) ms) .answer
   answer-is = p .answer ∙ ap (λ (q : Plan). q .outcome .answer) plan-is
 
-  state-is : Dec (a .number ≡ 0) → view l′ ≡ answer c (bench (view l) ms) .state
+  state-is : Dec (a .number ≡ 0) → view l′ ≡ answer c (device (view l) ms) .state
   state-is (yes z) = p .numbers z .same ∙ ap (λ (q : Plan). q .outcome .state) plan-is
   state-is (no ne) =
       ap view (p .kept ne .0)
@@ -34,5 +30,5 @@ module _ (c : Invocation) (l : List ℕ) (ms : Memories) (good : isRecord l ≡ 
       (refusals-keep (c .call) (c .units) (view l) (length (ms .panel)) (length (ms .store)) (λ z. ne (ap (λ (x : Parts). x .number) answer-is ∙ z))))
 
   -- the answer is the step's, and so are record and memories afterwards
-  pub performed-step : (a ≡ answer c (bench (view l) ms) .answer) × (bench (view l′) ms′ ≡ step c (bench (view l) ms))
-  performed-step = (answer-is, ap₂ bench (state-is (ℕ-discrete (a .number) 0)) (p .memories ∙ rw plan-is))
+  pub performed-step : (a ≡ answer c (device (view l) ms) .answer) × (device (view l′) ms′ ≡ step c (device (view l) ms))
+  performed-step = (answer-is, ap₂ device (state-is (ℕ-discrete (a .number) 0)) (p .memories ∙ rw plan-is))

@@ -1,0 +1,4 @@
+pub mod Shape
+pub mod Steady
+pub mod Steps
+pub mod Performed

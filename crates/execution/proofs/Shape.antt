@@ -1,0 +1,129 @@
+-- What the plan of a call can be, and that each call's is. A law of all calls is proved by these five cases. Assumes nothing.
+use mathlib.Core.Bool.{Bool, true, false, cond, _||_}
+use mathlib.Core.List.{List, [], _∷_}
+use mathlib.Core.Path.{_≡_, refl}
+use Prim.Native.Nat.{ℕ, _+_, _≤_, _<_}
+use native.Mathlib.Omega.{arith}
+use lib.Dec.{leb, ltb}
+use borrow.Author.Tests.{leb-false, ltb-false, lt-ltb}
+use Rattle.laws.proofs.Test.{both, neither, together}
+use Rattle.rop3.specs.Rop3.{tableOf}
+use Rattle.clip_blit.specs.Blit.{drawn}
+use Rattle.clip_blit.proofs.Blit.{drawn-source}
+use Rattle.surface.specs.Refusal.{side}
+use Rattle.gdi.specs.declared.GdiState.{GdiState}
+use Rattle.gdi.specs.declared.GdiObject.{GdiObject}
+use Rattle.gdi.specs.declared.Found.{Found}
+use Rattle.gdi.specs.declared.Found.the-variants.{At as FoundAt, Nothing}
+use Rattle.gdi.specs.Record.{size, bytesOf}
+use Rattle.gdi.specs.Stock.{isStock}
+use Rattle.gdi.specs.Lookup.{findOf}
+use Rattle.sound.specs.Sound.{objectFits, used}
+use Rattle.place.specs.declared.Place.{Place}
+use Rattle.place.specs.declared.Place.the-variants.{Nowhere, At}
+use Rattle.place.specs.declared.SurfaceId.{SurfaceId}
+use Rattle.place.specs.Place.{whereIs}
+use Rattle.place.proofs.Same.{still-same}
+use Rattle.paint.specs.Memories.{widthOf, heightOf, inside}
+use Rattle.paint.proofs.Draws.{Sourced}
+use Rattle.plan.specs.declared.Area.{Area}
+use Rattle.plan.specs.declared.Point.{Point}
+use Rattle.plan.specs.declared.Call.{Call}
+use Rattle.plan.specs.declared.Call.the-variants.{CreateMemoryDc, CreateCompatibleBitmap, CreateSolidBrush, CreatePen, CreateFont, Delete, Remove, SelectInto, SetTextColor, SetTextAlign, SetBkColor, SetBkMode, PatternFill, Rectangle, Text, PanelFill, Resize, Blit}
+use Rattle.plan.specs.Answer.{Parts, done}
+use Rattle.plan.specs.Plan.{Plan, told, refuse}
+use Rattle.plan.specs.Stroke.{Stroke, drawnBy}
+use Rattle.plan.specs.Create.{made, createOf, newBitmap, createBitmap}
+use Rattle.plan.specs.Delete.{goneAt, goes}
+use Rattle.plan.specs.Drawing.{packedOf, blitted, blit}
+use Rattle.plan.specs.Panel.{panelFillStroke, resized}
+use Rattle.plan.specs.Calls.{act}
+use Rattle.plan.proofs.Cases.{pattern-fill-by, rectangle-by, text-by, blit-by, resize-by}
+use Rattle.plan.proofs.Create.{bitmap-fits}
+use Rattle.plan.proofs.Select.{Unpainted, select-unpainted, setting-unpainted}
+
+-- the source of each stroke has a pixel for every pixel that is drawn
+abbrev pub AllSourced : GdiState → List Stroke → Type 0
+AllSourced b [] = Unit
+AllSourced b (s ∷ ss) = Sourced b (s .drawing) × AllSourced b ss
+
+-- Nothing is painted, and every surface stays in its place; strokes are made; an object is new; a created object goes; the panel
+-- has a new size.
+pub data Shape (b : GdiState) : Plan → Type 0 where
+  record-only : {p : Plan} → Unpainted b p → Shape b p
+  strokes : (ss : List Stroke) (a : Parts) → AllSourced b ss → Shape b (drawnBy b ss a)
+  creation : (o : GdiObject) → objectFits o ≡ true → b .count < 256 → used b + bytesOf o ≤ b .«store_len» → Shape b (made b o)
+  deletion : (gone : ℕ → Parts) (none : Parts) (h i : ℕ) → isStock h ≡ false → findOf b h ≡ FoundAt i → Shape b (goneAt gone none b h (FoundAt i))
+  resizing : (w h : ℕ) → side w ≡ true → side h ≡ true → size w h ≤ b .«panel_len» → Shape b (resized b w h)
+
+module _ (b : GdiState) where
+  -- a refusal, or an answer alone
+  unchanged : (a : Parts) → Shape b (told b a)
+  unchanged a = record-only (record { paint = refl; still = still-same b })
+
+  refused : (n : ℕ) → Shape b (refuse n b)
+  refused n = unchanged _
+
+  create-shape : (o : GdiObject) → objectFits o ≡ true → Shape b (createOf b o)
+  unfolding createOf
+  create-shape o fits = by (leb 256 (b .count)) refl (ltb (b .«store_len») (used b + bytesOf o)) refl
+    where
+      by : (t : Bool) → leb 256 (b .count) ≡ t → (u : Bool) → ltb (b .«store_len») (used b + bytesOf o) ≡ u → Shape b (cond t (refuse 5 b) (cond u (refuse 7 b) (made b o)))
+      by true e u f = refused 5
+      by false e true f = refused 7
+      by false e false f = creation o fits (leb-false _ _ e) (ltb-false _ _ f)
+
+  bitmap-shape : (w h : ℕ) → Shape b (createBitmap b w h)
+  unfolding createBitmap
+  bitmap-shape w h = by (ltb 4096 w || ltb 4096 h) refl
+    where
+      by : (t : Bool) → (ltb 4096 w || ltb 4096 h) ≡ t → Shape b (cond t (refuse 6 b) (createOf b (newBitmap w h)))
+      by true e = refused 6
+      by false e = let s = neither (ltb 4096 w) (ltb 4096 h) e in create-shape (newBitmap w h) (bitmap-fits w h (ltb-false 4096 w (s .0)) (ltb-false 4096 h (s .1)))
+
+  goes-shape : (stock : Parts) (gone : ℕ → Parts) (none : Parts) (h : ℕ) → Shape b (goes stock gone none b h)
+  unfolding goes
+  goes-shape stock gone none h = by (isStock h) refl (findOf b h) refl
+    where
+      by : (t : Bool) → isStock h ≡ t → (q : Found) → findOf b h ≡ q → Shape b (cond t (told b stock) (goneAt gone none b h q))
+      by true e q f = unchanged stock
+      by false e (FoundAt i) f = deletion gone none h i e f
+      by false e Nothing f = unchanged none
+
+  -- a blit takes only pixels of its source
+  source-inside : (at : Place) (x y : ℕ) → x < widthOf at → y < heightOf at → inside at x y ≡ true
+  source-inside Nowhere x y e f = absurd (omega (arith, e))
+  source-inside (At m p w h) x y e f = together (lt-ltb x w e) (lt-ltb y h f)
+
+  blit-sourced : (s q : SurfaceId) (a : Area) (p : Point) (t c : ℕ) → Sourced b (blitted s q (whereIs b q) a p t c)
+  blit-sourced s q a p t c x y e =
+      let (col, row) = both (drawn (a .x) (p .x) (a .w) (widthOf (whereIs b q)) x) _ e in
+      source-inside (whereIs b q) _ _ (drawn-source (a .x) (p .x) (a .w) (widthOf (whereIs b q)) x col) (drawn-source (a .y) (p .y) (a .h) (heightOf (whereIs b q)) y row)
+
+  blit-shape : (dc : ℕ) (a : Area) (src : ℕ) (p : Point) (rop : ℕ) → Shape b (blit b dc a src p rop)
+  blit-shape dc a src p rop =
+      blit-by (Shape b) b refused dc a src p rop
+      (λ s d. strokes _ _ ((λ x y e. refl), tt))
+      (λ s d q. strokes _ _ (blit-sourced s q a p (tableOf rop) (packedOf (d .«brush_color»)), tt))
+
+  -- a line for each call
+  pub act-shape : (c : Call) (us : List ℕ) → Shape b (act c us b)
+  unfolding act
+  act-shape CreateMemoryDc us = create-shape _ refl
+  act-shape (CreateCompatibleBitmap w h) us = bitmap-shape w h
+  act-shape (CreateSolidBrush c) us = create-shape _ refl
+  act-shape (CreatePen c w) us = create-shape _ refl
+  act-shape (CreateFont h) us = create-shape _ refl
+  act-shape (Delete h) us = goes-shape _ _ _ h
+  act-shape (Remove h) us = goes-shape _ _ _ h
+  act-shape (SelectInto dc h) us = record-only (select-unpainted b dc h)
+  act-shape (SetTextColor dc c) us = record-only (setting-unpainted _ _ (λ d. refl) b dc)
+  act-shape (SetTextAlign dc v) us = record-only (setting-unpainted _ _ (λ d. refl) b dc)
+  act-shape (SetBkColor dc c) us = record-only (setting-unpainted _ _ (λ d. refl) b dc)
+  act-shape (SetBkMode dc t) us = record-only (setting-unpainted _ _ (λ d. refl) b dc)
+  act-shape (PatternFill dc a rop) us = pattern-fill-by (Shape b) b refused dc a rop (λ s d. strokes _ _ ((λ x y e. refl), tt))
+  act-shape (Rectangle dc a) us = rectangle-by (Shape b) b refused dc a (λ s d. strokes _ _ ((λ x y e. refl), ((λ x y e. refl), tt)))
+  act-shape (Text dc at) us = text-by (Shape b) b refused us dc at (λ s d. strokes _ _ ((λ x y e. refl), tt))
+  act-shape (PanelFill c) us = strokes (panelFillStroke (c .0) ∷ []) done ((λ x y e. refl), tt)
+  act-shape (Resize w h) us = resize-by (Shape b) b refused w h (unchanged _) (resizing w h)
+  act-shape (Blit dc a src from rop) us = blit-shape dc a src from rop

@@ -1,0 +1,69 @@
+-- Lists of calls: one after another, the lengths kept, readiness kept, and refusals of everything. Assumes nothing.
+use mathlib.Core.Bool.{Bool, true, false, cond}
+use mathlib.Core.List.{List, [], _∷_, _++_}
+use mathlib.Core.Path.{_≡_, refl, _∙_, ap}
+use Prim.Native.Nat.{ℕ}
+use lib.Dec.{eqb}
+use lib.ListN.{length}
+use borrow.Author.Tests.{eqb-true}
+use Rattle.ready.proofs.Ready.{ready, looks}
+use Rattle.paint.specs.Paint.{after}
+use Rattle.paint.proofs.Alike.{Looks}
+use Rattle.plan.specs.Plan.{Plan, refuse}
+use Rattle.plan.specs.Calls.{act, plan}
+use Rattle.execution.specs.Execution.{Device, device, refusesAll, Invocation, step, run}
+use Rattle.execution.proofs.Shape.{act-shape}
+use Rattle.execution.proofs.Steady.{shape-steady}
+
+-- the plan of a call that is looked at, or refused
+abbrev chosen : Invocation → Device → Bool → Plan
+chosen c s t = cond t (act (c .call) (c .units) (s .state)) (refuse (refusesAll s) (s .state))
+
+-- the memories' lengths, and that calls are looked at
+pub record Kept (s t : Device) : Type 0 where
+  pub panel : length (t .memories .panel) ≡ length (s .memories .panel)
+  pub store : length (t .memories .store) ≡ length (s .memories .store)
+  pub looked : refusesAll s ≡ 0 → refusesAll t ≡ 0
+
+pub step-kept : (c : Invocation) (s : Device) → Kept s (step c s)
+unfolding plan
+step-kept c s = by (eqb (refusesAll s) 0) refl
+  where
+    by : (t : Bool) → eqb (refusesAll s) 0 ≡ t → Kept s (device (chosen c s t .outcome .state) (after (s .state) (chosen c s t .paint) (s .memories)))
+    by true e =
+        let l : Looks (s .state) (s .memories) = ready (s .state) _ _ _ refl (eqb-true _ _ e) in
+        let k = shape-steady (act-shape (s .state) (c .call) (c .units)) in
+        record {
+          panel = k .panel (s .memories) l;
+          store = k .store (s .memories) l;
+          looked = λ z. rw (k .panel (s .memories) l, k .store (s .memories) l) (looks (k .looks l));
+        }
+    by false e = unfold after in record { panel = refl; store = refl; looked = λ z. z }
+
+pub run-kept : (cs : List Invocation) (s : Device) → Kept s (run cs s .1)
+unfolding run
+run-kept [] s = record { panel = refl; store = refl; looked = λ z. z }
+run-kept (c ∷ cs) s =
+    let j = step-kept c s in
+    let k = run-kept cs (step c s) in
+    record { panel = k .panel ∙ j .panel; store = k .store ∙ j .store; looked = λ z. k .looked (j .looked z) }
+
+-- a device that refuses every call stays as it is
+pub step-refused : (c : Invocation) (s : Device) → (refusesAll s ≡ 0 → ⊥) → step c s ≡ s
+unfolding plan
+step-refused c s ne = by (eqb (refusesAll s) 0) refl
+  where
+    by : (t : Bool) → eqb (refusesAll s) 0 ≡ t → device (chosen c s t .outcome .state) (after (s .state) (chosen c s t .paint) (s .memories)) ≡ s
+    by true e = absurd (ne (eqb-true _ _ e))
+    by false e = unfold after in refl
+
+pub run-refused : (cs : List Invocation) (s : Device) → (refusesAll s ≡ 0 → ⊥) → run cs s .1 ≡ s
+unfolding run
+run-refused [] s ne = refl
+run-refused (c ∷ cs) s ne = ap (λ (t : Device). run cs t .1) (step-refused c s ne) ∙ run-refused cs s ne
+
+-- one list after another
+pub run-append : (cs ds : List Invocation) (s : Device) → run (cs ++ ds) s .1 ≡ run ds (run cs s .1) .1
+unfolding run
+run-append [] ds s = refl
+run-append (c ∷ cs) ds s = run-append cs ds (step c s)

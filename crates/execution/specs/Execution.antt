@@ -1,0 +1,51 @@
+-- A device, one call on it, and a list of calls.
+use mathlib.Core.Bool.{Bool, _&&_}
+use mathlib.Core.List.{List, [], _∷_}
+use Prim.Native.Nat.{ℕ}
+use lib.Dec.{eqb}
+use lib.ListN.{length}
+use Rattle.gdi.specs.declared.GdiState.{GdiState}
+use Rattle.ready.specs.Ready.{commonRefusal}
+use Rattle.place.specs.declared.SurfaceId.{SurfaceId}
+use Rattle.place.specs.Place.{whereIs}
+use Rattle.paint.specs.Memories.{Memories, inside}
+use Rattle.paint.specs.Paint.{after}
+use Rattle.plan.specs.declared.Call.{Call}
+use Rattle.plan.specs.Plan.{Outcome, Plan}
+use Rattle.plan.specs.Calls.{planOf}
+
+-- A device (document 01: bench): its record, and the memories lent with it.
+pub record Device : Type 0 where
+  pub state : GdiState
+  pub memories : Memories
+
+abbrev pub device : GdiState → Memories → Device
+device b ms = record { state = b; memories = ms }
+
+-- 9 or 8, with which it refuses every call; 0 if it looks at calls
+abbrev pub refusesAll : Device → ℕ
+refusesAll s = commonRefusal (s .state) (length (s .memories .panel)) (length (s .memories .store))
+
+-- a pixel of the device; a device that refuses every call has none
+abbrev pub isPixel : Device → SurfaceId → (x y : ℕ) → Bool
+isPixel s u x y = eqb (refusesAll s) 0 && inside (whereIs (s .state) u) x y
+
+-- A call as it is made: a text with its units.
+pub record Invocation : Type 0 where
+  pub call : Call
+  pub units : List ℕ
+
+abbrev pub planFor : Invocation → Device → Plan
+planFor c s = planOf (c .call) (c .units) (s .state) (s .memories)
+
+-- what a call answers, with the record after it; and the device after it
+abbrev pub answer : Invocation → Device → Outcome
+answer c s = planFor c s .outcome
+
+abbrev pub step : Invocation → Device → Device
+step c s = device (answer c s .state) (after (s .state) (planFor c s .paint) (s .memories))
+
+-- a list of calls, each on what the last one left: the answers, and the device at the end
+unfoldable pub run : List Invocation → Device → List Outcome × Device
+run [] s = ([], s)
+run (c ∷ cs) s = (answer c s ∷ run cs (step c s) .0, run cs (step c s) .1)
