@@ -8,11 +8,14 @@ use Rattle.numbers.specs.View.{view}
 use Rattle.paint.specs.Memories.{Memories}
 use Rattle.plan.specs.Plan.{Plan, refuse}
 use Rattle.plan.specs.Calls.{planOn}
+use Rattle.plan.specs.Followed.{Followed}
 use Rattle.host_call.specs.declared.HostCall.{HostCall}
 use Rattle.host_call.specs.declared.CallRead.{CallRead}
 use Rattle.host_call.specs.declared.CallRead.the-variants.{NoCall, Is}
 use Rattle.host_call.specs.Call.{callOf}
-use Rattle.snapshot.specs.Snapshot.{ppmLength}
+use Rattle.host_reply.specs.declared.Reply.{Reply}
+use Rattle.host_reply.specs.Reply.{Replied}
+use Rattle.p6.specs.P6.{ppmLength}
 
 abbrev pub planRead : CallRead → (units l : List ℕ) → Memories → Plan
 planRead NoCall us l ms = refuse 255 (view l)
@@ -21,6 +24,11 @@ planRead (Is c) us l ms = planOn c us l (length (ms .panel)) (length (ms .store)
 -- numbers that are no call are refused with 255
 abbrev pub hostPlan : HostCall → (units l : List ℕ) → Memories → Plan
 hostPlan c us l ms = planRead (callOf c) us l ms
+
+-- A host's call was made: the plan of the call that its numbers are was followed, and its answer replied.
+pub record HostPerformed (c : HostCall) (us l : List ℕ) (ms : Memories) (r : Reply) (l′ : List ℕ) (ms′ : Memories) : Type 0 where
+  pub replied : Replied (hostPlan c us l ms .outcome .answer) r
+  pub followed : Followed (hostPlan c us l ms) l ms (hostPlan c us l ms .outcome .answer) l′ ms′
 
 -- a picture's length by its sides, 0 for sides that no panel has
 abbrev pub pictureLength : (width height : ℕ) → ℕ

@@ -2,16 +2,10 @@
 // units as a slice, two lent memories. A slice is a pointer and a length there. None of these functions asks anything of its
 // caller.
 ghost use mathlib.Core.Path.{_≡_};
-ghost use Prim.Native.Nat.{_*_};
-ghost use lib.ListN.{length};
-ghost use Rattle.surface.specs.Refusal.{unlessRefused};
-ghost use Rattle.numbers.specs.View.{view};
 ghost use Rattle.paint.specs.Memories.{memories};
 ghost use Rattle.plan.specs.Open.{Opened};
-ghost use Rattle.plan.specs.Followed.{Followed};
-ghost use Rattle.snapshot.specs.Snapshot.{snapshotRefusal, rgbaOf, ppmOf, rgbaLength, ppmLength};
-ghost use Rattle.host_reply.specs.Reply.{Replied};
-ghost use Rattle.host.specs.Host.{hostPlan, pictureLength};
+ghost use Rattle.snapshot.specs.Snapshot.{rgba8888, ppm, Snapped};
+ghost use Rattle.host.specs.Host.{HostPerformed, pictureLength};
 use host_call::CallRead;
 use host_call::HostCall;
 use host_reply::Reply;
@@ -44,8 +38,7 @@ pub extern "C" fn ravinefork_perform(
     panel: &mut [u8],
     store: &mut [u8],
 ) -> Reply
-    ensures { λ r. ⌜ Replied (hostPlan call (now (units .entry)) (now (numbers .entry)) (memories (now (panel .entry)) (now (store .entry))) .outcome .answer) r ⌝ }
-    ensures followed { λ _. ⌜ Followed (hostPlan call (now (units .entry)) (now (numbers .entry)) (memories (now (panel .entry)) (now (store .entry)))) (now (numbers .entry)) (memories (now (panel .entry)) (now (store .entry))) (hostPlan call (now (units .entry)) (now (numbers .entry)) (memories (now (panel .entry)) (now (store .entry))) .outcome .answer) (now (numbers .exit)) (memories (now (panel .exit)) (now (store .exit))) ⌝ }
+    ensures { λ r. ⌜ HostPerformed call (now (units .entry)) (now (numbers .entry)) (memories (now (panel .entry)) (now (store .entry))) r (now (numbers .exit)) (memories (now (panel .exit)) (now (store .exit))) ⌝ }
 {
     match host_call::call_of(call) {
         CallRead::NoCall => host_reply::reply_of(Answer::Refused(NO_CALL)),
@@ -59,8 +52,7 @@ pub extern "C" fn ravinefork_perform(
 // Writes the panel's pixels as R, G, B, 255. The refusal's number, 0 if the snapshot was made.
 #[no_mangle]
 pub extern "C" fn ravinefork_snapshot_rgba8888(numbers: &[u32], panel: &[u8], out: &mut [u8]) -> u32
-    ensures { λ r. ⌜ r ≡ snapshotRefusal (now (numbers .entry)) (length (now (panel .entry))) (length (now (out .entry))) rgbaLength ⌝ }
-    ensures bytes { λ r. ⌜ now (out .exit) ≡ unlessRefused r (rgbaOf (now (panel .entry)) (view (now (numbers .entry)) .width * view (now (numbers .entry)) .height)) (now (out .entry)) ⌝ }
+    ensures { λ r. ⌜ Snapped rgba8888 (now (numbers .entry)) (now (panel .entry)) (now (out .entry)) r (now (out .exit)) ⌝ }
 {
     snapshot::snapshot_rgba8888_into(numbers, panel, out)
 }
@@ -68,8 +60,7 @@ pub extern "C" fn ravinefork_snapshot_rgba8888(numbers: &[u32], panel: &[u8], ou
 // Writes the panel as a P6 picture. The refusal's number, 0 if the snapshot was made.
 #[no_mangle]
 pub extern "C" fn ravinefork_snapshot_ppm(numbers: &[u32], panel: &[u8], out: &mut [u8]) -> u32
-    ensures { λ r. ⌜ r ≡ snapshotRefusal (now (numbers .entry)) (length (now (panel .entry))) (length (now (out .entry))) ppmLength ⌝ }
-    ensures bytes { λ r. ⌜ now (out .exit) ≡ unlessRefused r (ppmOf (view (now (numbers .entry)) .width) (view (now (numbers .entry)) .height) (now (panel .entry))) (now (out .entry)) ⌝ }
+    ensures { λ r. ⌜ Snapped ppm (now (numbers .entry)) (now (panel .entry)) (now (out .entry)) r (now (out .exit)) ⌝ }
 {
     snapshot::snapshot_ppm(numbers, panel, out)
 }

@@ -18,7 +18,7 @@ returns : tie.Need-returns
 returns c =
     let p = c .before in
     let s = p .before .before .before .before in
-    (refused (s .args .l .now) (length (s .args .panel .now)) (p .panel-refusal .ensures) (length (s .args .out .now)) ppmLength (c .if1 .taken), refused-bytes _ refl (c .if1 .taken) _ _)
+    record { answer = refused (s .args .l .now) (length (s .args .panel .now)) (p .panel-refusal .ensures) (length (s .args .out .now)) ppmLength (c .if1 .taken); bytes = refused-bytes _ refl (c .if1 .taken) _ _ }
 
 shared-slice-read-width : tie.Need-shared-slice-read-width
 shared-slice-read-width c =
@@ -47,7 +47,7 @@ returns-2 c =
     let i = p .before .before .before in
     let a = i .before in
     let s = a .before .before .before .before in
-    (other-length (s .args .l .now) (length (s .args .panel .now)) (a .panel-refusal .ensures) (length (s .args .out .now)) ppmLength (i .if1 .left) (λ e. c .if2 .taken (e ∙ sym (p .ppm-len .ensures))), refl)
+    record { answer = other-length (s .args .l .now) (length (s .args .panel .now)) (a .panel-refusal .ensures) (length (s .args .out .now)) ppmLength (i .if1 .left) (λ e. c .if2 .taken (e ∙ sym (p .ppm-len .ensures))); bytes = refl }
 
 write-ppm-requires : tie.Need-write-ppm-requires
 write-ppm-requires c κs =
@@ -69,7 +69,7 @@ returns-3 c =
     let a = p .before .before .before in
     let b = a .before in
     let s = b .before .before .before .before in
-    (exact (s .args .l .now) (length (s .args .panel .now)) (b .panel-refusal .ensures) (length (s .args .out .now)) ppmLength (a .if1 .left) (i .if2 .left ∙ p .ppm-len .ensures), rw (width-seen (s .args .l .now), height-seen (s .args .l .now)) (w .write-ppm .ensures))
+    record { answer = exact (s .args .l .now) (length (s .args .panel .now)) (b .panel-refusal .ensures) (length (s .args .out .now)) ppmLength (a .if1 .left) (i .if2 .left ∙ p .ppm-len .ensures); bytes = rw (width-seen (s .args .l .now), height-seen (s .args .l .now)) (w .write-ppm .ensures) }
 
 pub snapshot-ppm-spec : {M : Type 1} → statement M
 snapshot-ppm-spec =

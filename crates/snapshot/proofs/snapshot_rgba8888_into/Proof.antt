@@ -18,7 +18,7 @@ returns : tie.Need-returns
 returns c =
     let p = c .before in
     let s = p .before .before .before .before in
-    (refused (s .args .l .now) (length (s .args .panel .now)) (p .panel-refusal .ensures) (length (s .args .out .now)) rgbaLength (c .if1 .taken), refused-bytes _ refl (c .if1 .taken) _ _)
+    record { answer = refused (s .args .l .now) (length (s .args .panel .now)) (p .panel-refusal .ensures) (length (s .args .out .now)) rgbaLength (c .if1 .taken); bytes = refused-bytes _ refl (c .if1 .taken) _ _ }
 
 shared-slice-read-width : tie.Need-shared-slice-read-width
 shared-slice-read-width c =
@@ -47,7 +47,7 @@ returns-2 c =
     let i = r .before .before .before in
     let p = i .before in
     let s = p .before .before .before .before in
-    (other-length (s .args .l .now) (length (s .args .panel .now)) (p .panel-refusal .ensures) (length (s .args .out .now)) rgbaLength (i .if1 .left) (λ e. c .if2 .taken (e ∙ sym (r .rgba-len .ensures))), refl)
+    record { answer = other-length (s .args .l .now) (length (s .args .panel .now)) (p .panel-refusal .ensures) (length (s .args .out .now)) rgbaLength (i .if1 .left) (λ e. c .if2 .taken (e ∙ sym (r .rgba-len .ensures))); bytes = refl }
 
 write-rgba-requires : tie.Need-write-rgba-requires
 write-rgba-requires c κs =
@@ -69,7 +69,7 @@ returns-3 c =
     let a = r .before .before .before in
     let p = a .before in
     let s = p .before .before .before .before in
-    (exact (s .args .l .now) (length (s .args .panel .now)) (p .panel-refusal .ensures) (length (s .args .out .now)) rgbaLength (a .if1 .left) (i .if2 .left ∙ r .rgba-len .ensures), rw (width-seen (s .args .l .now), height-seen (s .args .l .now)) (w .write-rgba .ensures))
+    record { answer = exact (s .args .l .now) (length (s .args .panel .now)) (p .panel-refusal .ensures) (length (s .args .out .now)) rgbaLength (a .if1 .left) (i .if2 .left ∙ r .rgba-len .ensures); bytes = rw (width-seen (s .args .l .now), height-seen (s .args .l .now)) (w .write-rgba .ensures) }
 
 pub snapshot-rgba8888-into-spec : {M : Type 1} → statement M
 snapshot-rgba8888-into-spec =
