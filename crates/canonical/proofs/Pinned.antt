@@ -7,7 +7,7 @@ use native.Mathlib.Decide.{decLt}
 use native.Mathlib.Omega.{arith}
 use lib.Dec.{eqb}
 use lib.IntN.{ℤ, pos, negsuc, _-ℤ_}
-use lib.ListN.{drop}
+use lib.ListN.{length, drop}
 use lib.Seq.{ext-getD, getD-drop}
 use borrow.Author.Tests.{eqb-true, leb-true, ne-eqb}
 use Rattle.laws.proofs.Integer.{difference, eq-parts}
@@ -21,8 +21,8 @@ use Rattle.gdi.specs.declared.GdiState.{GdiState}
 use Rattle.gdi.specs.declared.Slot.{Slot}
 use Rattle.gdi.specs.Lookup.{slotAt}
 use Rattle.numbers.specs.Layout.{dcSize, objectSize, slotSize, headSize, panelLenPlace, storeLenPlace, widthPlace, heightPlace, framesLowPlace, framesHighPlace, nextHandlePlace, stockDirtyPlace, countPlace, screenPlace, slotsPlace, slotPlace, kindPlace, objectPlace, surfaceIn, presentIn, bitmapIn, bkTransparentIn, bitmapWidthIn, bitmapHeightIn, bitmapDirtyIn, fontHeightIn, bitmapSize, brushSize, penSize, fontSize}
-use Rattle.numbers.specs.Block.{at, flagOf, isFlag, bit, surfaceOf, surfaceNumber, bitmapOf, presentNumber, bitmapNumber, dcOf, isDc, objectOf, zerosFrom, isObject, slotOf, isSlot}
-use Rattle.numbers.specs.View.{view, isRecord}
+use Rattle.numbers.specs.Block.{at, flagOf, isFlag, bit, surfaceOf, surfaceNumber, bitmapOf, presentNumber, bitmapNumber, dcOf, isDc, objectOf, zerosFrom, isObject, ObjectCoded, slotOf, isSlot}
+use Rattle.numbers.specs.View.{view, isRecord, Stored}
 use Rattle.numbers.proofs.Block.{no-kind, dcNumbers}
 use Rattle.numbers.proofs.Record.{parts}
 use Rattle.numbers.proofs.Seen.{part-at, count-seen}
@@ -200,3 +200,22 @@ same-numbers l m sl sm rl rm e rest =
         ap (at l) (sym i) ∙ sym (getD-drop (slotPlace (at l countPlace)) l (k - slotPlace (at l countPlace)) 0)
         ∙ ap (λ (d : List ℕ). at d (k - slotPlace (at l countPlace))) rest
         ∙ getD-drop (slotPlace (at m countPlace)) m (k - slotPlace (at l countPlace)) 0 ∙ ap (at m) j
+
+-- numbers that became a record are determined by the numbers before and the record
+pub stored-unique : (l l′ k′ : List ℕ) (b : GdiState) → ((k : ℕ) → at l′ k < 2 ^ 32) → ((k : ℕ) → at k′ k < 2 ^ 32) → Stored l b l′ → Stored l b k′ → l′ ≡ k′
+stored-unique l l′ k′ b sl sk x y =
+    same-numbers l′ k′ sl sk (x .is-record) (y .is-record) (x .same ∙ sym (y .same)) (rest l′ x ∙ sym (rest k′ y))
+  where
+    rest : (m : List ℕ) → Stored l b m → drop (slotPlace (at m countPlace)) m ≡ drop (slotPlace (b .count)) l
+    rest m z = ap (λ (n : ℕ). drop (slotPlace n) m) (sym (count-seen m) ∙ ap (λ (s : GdiState). s .count) (z .same)) ∙ z .rest
+
+-- and so are an object's kind and numbers by the object
+pub same-object : {o : GdiObject} {i j : ℕ} {l m : List ℕ} → length l ≡ objectSize → length m ≡ objectSize → at l fontHeightIn < 2 ^ 32 → at m fontHeightIn < 2 ^ 32
+    → ObjectCoded o i l → ObjectCoded o j m → (i ≡ j) × (l ≡ m)
+same-object {i = i} {j = j} {l = l} {m = m} long long′ small small′ x y =
+    let e = x .same ∙ sym (y .same) in (
+      kind-back i l (x .is-object) ∙ ap kindNumber e ∙ sym (kind-back j m (y .is-object)),
+      ext-getD 0 l m (long ∙ sym long′) (λ k lt.
+          let lt′ : k < objectSize = omega (arith, lt, long) in
+          object-back i l small (x .is-object) k lt′ ∙ ap (λ (o : GdiObject). at (objectNumbers o) k) e ∙ sym (object-back j m small′ (y .is-object) k lt′)),
+    )

@@ -1,0 +1,149 @@
+-- Lists of calls through an entry are those of the devices, so that what holds of devices holds of what callers lend. Assumes nothing.
+use mathlib.Core.Bool.{Bool, true, false, true≢false}
+use mathlib.Core.List.{List, [], _∷_, _++_}
+use mathlib.Core.Path.{_≡_, refl, sym, _∙_, ap, ap₂, subst, subst₂}
+use Prim.Native.Nat.{ℕ}
+use native.Mathlib.Omega.{arith}
+use lib.ListN.{length}
+use Rattle.numbers.specs.View.{view, isRecord}
+use Rattle.place.specs.declared.SurfaceId.{SurfaceId}
+use Rattle.paint.specs.Marks.{Marks}
+use Rattle.execution.specs.Execution.{Device, refusesAll, run}
+use Rattle.execution.proofs.Steps.{run-append, run-kept}
+use Rattle.noninterference.specs.Claim.{Agree, marksAfter, marksOf}
+use Rattle.noninterference.proofs.Noninterference.{noninterference}
+use Rattle.noninterference.proofs.After.{marks-append}
+use Rattle.end_to_end.specs.Lists.{Lending, deviceOf, refusesEvery, isPixelOf, colourOf, EqualBut, Entry, throughPerform, throughHost, Made, none, call, callsOf, ListsAgree}
+use Rattle.end_to_end.proofs.Entries.{SameRecord, no-record, record-of, no-record-refuses, Lawful, perform-lawful, host-lawful}
+
+-- Memories of equal lengths; both are no record, or both are one, and the devices agree but for marked pixels.
+pub record Linked (m : Marks) (s t : Lending) : Type 0 where
+  pub panels : length (s .memories .panel) ≡ length (t .memories .panel)
+  pub stores : length (s .memories .store) ≡ length (t .memories .store)
+  pub records : isRecord (s .numbers) ≡ isRecord (t .numbers)
+  pub agree : isRecord (s .numbers) ≡ true → Agree m (deviceOf s) (deviceOf t)
+
+-- where there is no record, marks have no effect
+lost : {m k : Marks} {s t : Lending} → isRecord (s .numbers) ≡ false → Linked m s t → Linked k s t
+lost e l = record { panels = l .panels; stores = l .stores; records = l .records; agree = λ z. absurd (true≢false (sym z ∙ e)) }
+
+same-record : {m : Marks} {s t : Lending} → Linked m s t → SameRecord s t
+same-record {m} {s} {t} l = by (isRecord (s .numbers)) refl
+  where
+    by : (b : Bool) → isRecord (s .numbers) ≡ b → SameRecord s t
+    by true e = record-of e (sym (l .records) ∙ e) (l .agree e .states) (l .panels) (l .stores)
+    by false e = no-record e (sym (l .records) ∙ e)
+
+-- equal but for marked pixels is linked with equal numbers
+pub linked-of : {m : Marks} {s t : Lending} → EqualBut m s t → Linked m s t
+linked-of {s = s} q =
+    record {
+      panels = q .panels;
+      stores = q .stores;
+      records = ap isRecord (q .numbers);
+      agree = λ e. record { states = ap view (q .numbers); panels = q .panels; stores = q .stores; pixels = λ u x y i n. q .pixels u x y (rw e i) n };
+    }
+
+equal-of : {m : Marks} {s t : Lending} → s .numbers ≡ t .numbers → Linked m s t → EqualBut m s t
+equal-of {m} {s} {t} n l = record { numbers = n; panels = l .panels; stores = l .stores; pixels = λ u x y. by (isRecord (s .numbers)) refl u x y }
+  where
+    by : (b : Bool) → isRecord (s .numbers) ≡ b → (u : SurfaceId) (x y : ℕ) → isPixelOf s u x y ≡ true → (m u x y → ⊥) → colourOf s u x y ≡ colourOf t u x y
+    by true e u x y i z = l .agree e .pixels u x y (rw e at i) z
+    by false e u x y i z = absurd (true≢false (sym (rw e at i)))
+
+module _ (e : Entry) (law : Lawful e) where
+  -- where every call is refused, everything is as it was
+  made-refused : {cs : List (e .Argument)} {s t : Lending} {rs : List (e .Answer)} → (refusesEvery s ≡ 0 → ⊥) → Made e cs s rs t → t ≡ s
+  made-refused ne none = refl
+  made-refused ne (call {c = c} {s = s} {t = t} {a = a} x xs) =
+      let q = law .refuses c s t a ne x in
+      made-refused (λ z. ne (ap refusesEvery (sym q) ∙ z)) xs ∙ q
+
+  -- numbers that are no record stay, with the memories
+  stays : {c : e .Argument} {s t : Lending} {a : e .Answer} → isRecord (s .numbers) ≡ false → e .Promises c s a t → t ≡ s
+  stays {c} {s} {t} {a} f x = law .refuses c s t a (no-record-refuses s f) x
+
+  -- a record stays one, and the calls are made on the device
+  made-makes : {cs : List (e .Argument)} {s t : Lending} {rs : List (e .Answer)} → isRecord (s .numbers) ≡ true → Made e cs s rs t
+      → (isRecord (t .numbers) ≡ true) × (deviceOf t ≡ run (callsOf e cs) (deviceOf s) .1)
+  unfolding run callsOf
+  made-makes f none = (f, refl)
+  made-makes f (call {c = c} {cs = cs} {s = s} {t = t} {a = a} x xs) =
+      let (g, q) = made-makes (law .stays-record c s t a f x) xs in
+      (g, q ∙ ap (λ (d : Device). run (callsOf e cs) d .1) (law .makes c s t a f x) ∙ sym (run-append (e .calls c) (callsOf e cs) (deviceOf s)))
+
+  -- one call on two that are linked
+  step-linked : {m : Marks} {c : e .Argument} {s t s′ t′ : Lending} {a b : e .Answer} → Linked m s t → e .Promises c s a s′ → e .Promises c t b t′
+      → Linked (marksOf (e .calls c) (deviceOf s) m) s′ t′
+  step-linked {m} {c} {s} {t} {s′} {t′} {a} {b} l x y = by (isRecord (s .numbers)) refl
+    where
+      by : (z : Bool) → isRecord (s .numbers) ≡ z → Linked (marksOf (e .calls c) (deviceOf s) m) s′ t′
+      by true f =
+          let g : isRecord (t .numbers) ≡ true = sym (l .records) ∙ f in
+          let after : Agree (marksOf (e .calls c) (deviceOf s) m) (deviceOf s′) (deviceOf t′) =
+          subst₂ (λ (p q : Device). Agree (marksOf (e .calls c) (deviceOf s) m) p q) (sym (law .makes c s s′ a f x)) (sym (law .makes c t t′ b g y))
+          (noninterference .pixels (e .calls c) m (deviceOf s) (deviceOf t) (l .agree f))
+          in
+          record { panels = after .panels; stores = after .stores; records = law .stays-record c s s′ a f x ∙ sym (law .stays-record c t t′ b g y); agree = λ z. after }
+      by false f =
+          let g : isRecord (t .numbers) ≡ false = sym (l .records) ∙ f in
+          subst₂ (λ (p q : Lending). Linked (marksOf (e .calls c) (deviceOf s) m) p q) (sym (stays f x)) (sym (stays g y)) (lost f l)
+
+  -- the marks of a call and then of a list are those of the longer list, where they have an effect
+  marks-then : (m : Marks) {c : e .Argument} {cs : List (e .Argument)} {s s′ t t′ : Lending} {a : e .Answer} {rs : List (e .Answer)} → e .Promises c s a s′ → Made e cs s′ rs t
+      → Linked (marksOf (callsOf e cs) (deviceOf s′) (marksOf (e .calls c) (deviceOf s) m)) t t′ → Linked (marksOf (callsOf e (c ∷ cs)) (deviceOf s) m) t t′
+  unfolding callsOf
+  marks-then m {c} {cs} {s} {s′} {t} {t′} {a} x xs l = by (isRecord (s .numbers)) refl
+    where
+      by : (z : Bool) → isRecord (s .numbers) ≡ z → Linked (marksOf (e .calls c ++ callsOf e cs) (deviceOf s) m) t t′
+      by true f =
+          subst (λ (k : Marks). Linked k t t′)
+          (ap (λ (d : Device). marksOf (callsOf e cs) d (marksOf (e .calls c) (deviceOf s) m)) (law .makes c s s′ a f x) ∙ sym (marks-append (e .calls c) (callsOf e cs) (deviceOf s) m)) l
+      by false f =
+          let q = stays f x in
+          let g : isRecord (s′ .numbers) ≡ false = ap (λ (z : Lending). isRecord (z .numbers)) q ∙ f in
+          lost (ap (λ (z : Lending). isRecord (z .numbers)) (made-refused (no-record-refuses s′ g) xs) ∙ g) l
+
+  -- a list on two that are linked
+  pub made-linked : {m : Marks} {cs : List (e .Argument)} {s t s′ t′ : Lending} {rs qs : List (e .Answer)} → Linked m s t → Made e cs s rs s′ → Made e cs t qs t′
+      → (rs ≡ qs) × Linked (marksOf (callsOf e cs) (deviceOf s) m) s′ t′
+  unfolding callsOf marksAfter
+  made-linked l none none = (refl, l)
+  made-linked {m = m} l (call {c = c} {s = s} {t = s′} {a = a} x xs) (call {s = t} {t = t′} {a = b} y ys) =
+      let (q, k) = made-linked (step-linked l x y) xs ys in
+      (ap₂ _∷_ (law .answers c s t s′ t′ a b (same-record l) x y) q, marks-then m x xs k)
+
+  -- equal numbers stay equal
+  made-numbers : {m : Marks} {cs : List (e .Argument)} {s t s′ t′ : Lending} {rs qs : List (e .Answer)} → Linked m s t → s .numbers ≡ t .numbers
+      → Made e cs s rs s′ → Made e cs t qs t′ → s′ .numbers ≡ t′ .numbers
+  made-numbers l n none none = n
+  made-numbers l n (call {c = c} {s = s} {t = s′} {a = a} x xs) (call {s = t} {t = t′} {a = b} y ys) =
+      made-numbers (step-linked l x y) (law .numbers c s t s′ t′ a b (same-record l) n x y) xs ys
+
+  -- where calls are looked at, they are after every list
+  pub made-looks : {cs : List (e .Argument)} {s t : Lending} {rs : List (e .Answer)} → refusesEvery s ≡ 0 → Made e cs s rs t → refusesEvery t ≡ 0
+  made-looks {cs} {s} {t} {rs} z xs = by (isRecord (s .numbers)) refl
+    where
+      by : (b : Bool) → isRecord (s .numbers) ≡ b → refusesEvery t ≡ 0
+      by true f =
+          let (g, q) = made-makes f xs in
+          rw (g) (ap refusesAll q ∙ run-kept (callsOf e cs) (deviceOf s) .looked (rw f at z))
+      by false f = absurd (omega (arith, rw f at z))
+
+  pub lists-agree : ListsAgree e
+  lists-agree =
+      record {
+        lists = λ cs m s t s′ t′ rs qs q xs ys.
+            let l = linked-of q in
+            let (answers, k) = made-linked l xs ys in
+            (answers, equal-of (made-numbers l (q .numbers) xs ys) k);
+        looks = λ cs s s′ rs z xs. made-looks z xs;
+        refuses = λ cs s s′ rs ne xs. made-refused ne xs;
+      }
+
+-- lists of calls through `perform`, and through the C entry
+pub perform-lists : ListsAgree throughPerform
+perform-lists = lists-agree throughPerform perform-lawful
+
+pub host-lists : ListsAgree throughHost
+host-lists = lists-agree throughHost host-lawful

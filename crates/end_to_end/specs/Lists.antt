@@ -1,0 +1,113 @@
+-- Lists of calls as callers make them: on a record in numbers, through `perform` or through the C entry.
+use mathlib.Core.Bool.{Bool, true, _&&_}
+use mathlib.Core.List.{List, [], _∷_, _++_}
+use mathlib.Core.Path.{_≡_}
+use Prim.Native.Nat.{ℕ, _<_, _^_}
+use lib.Dec.{eqb}
+use lib.ListN.{length}
+use Rattle.numbers.specs.Layout.{objectSize}
+use Rattle.numbers.specs.Block.{at}
+use Rattle.numbers.specs.View.{view}
+use Rattle.ready.specs.Ready.{commonRefusalOn}
+use Rattle.place.specs.declared.SurfaceId.{SurfaceId}
+use Rattle.place.specs.Place.{whereIs}
+use Rattle.paint.specs.Memories.{Memories, inside, colourAt}
+use Rattle.paint.specs.Marks.{Marks}
+use Rattle.plan.specs.Answer.{Parts}
+use Rattle.plan.specs.Followed.{Performed}
+use Rattle.execution.specs.Execution.{Device, device, Invocation}
+use Rattle.noninterference.specs.Claim.{marksOf}
+use Rattle.host_call.specs.declared.HostCall.{HostCall}
+use Rattle.host_call.specs.declared.CallRead.{CallRead}
+use Rattle.host_call.specs.declared.CallRead.the-variants.{NoCall, Is}
+use Rattle.host_call.specs.Call.{callOf}
+use Rattle.host_reply.specs.declared.Reply.{Reply}
+use Rattle.host.specs.Host.{HostPerformed}
+
+-- What a caller keeps, and lends with each call: the record as numbers, and the two memories.
+pub record Lending : Type 0 where
+  pub numbers : List ℕ
+  pub memories : Memories
+
+-- the device that they are
+abbrev pub deviceOf : Lending → Device
+deviceOf s = device (view (s .numbers)) (s .memories)
+
+-- 9 or 8, with which every call is refused; 0 if calls are looked at
+abbrev pub refusesEvery : Lending → ℕ
+refusesEvery s = commonRefusalOn (s .numbers) (length (s .memories .panel)) (length (s .memories .store))
+
+-- a pixel; where every call is refused there is none
+abbrev pub isPixelOf : Lending → SurfaceId → (x y : ℕ) → Bool
+isPixelOf s u x y = eqb (refusesEvery s) 0 && inside (whereIs (view (s .numbers)) u) x y
+
+abbrev pub colourOf : Lending → SurfaceId → (x y : ℕ) → ℕ
+colourOf s u x y = colourAt (s .memories) (whereIs (view (s .numbers)) u) x y
+
+-- Equal numbers, memories of equal lengths, and equal pixels except where marked.
+pub record EqualBut (m : Marks) (s t : Lending) : Type 0 where
+  pub numbers : s .numbers ≡ t .numbers
+  pub panels : length (s .memories .panel) ≡ length (t .memories .panel)
+  pub stores : length (s .memories .store) ≡ length (t .memories .store)
+  pub pixels : (u : SurfaceId) (x y : ℕ) → isPixelOf s u x y ≡ true → (m u x y → ⊥) → colourOf s u x y ≡ colourOf t u x y
+
+-- A function through which calls are made: what it is passed, what it answers, what it promises of both with what was lent before
+-- and after, and the calls that it is passed, one or none.
+pub record Entry : Type 1 where
+  pub Argument : Type 0
+  pub Answer : Type 0
+  pub Promises : Argument → Lending → Answer → Lending → Type 0
+  pub calls : Argument → List Invocation
+
+-- numbers of 32 bits, as the type `u32` has them
+pub record Words32 (l : List ℕ) : Type 0 where
+  pub below : (k : ℕ) → at l k < 2 ^ 32
+
+-- `perform` promises its contract; the numbers are a slice of `u32`.
+pub record PerformPromises (c : Invocation) (s : Lending) (a : Parts) (t : Lending) : Type 0 where
+  pub performed : Performed (c .call) (c .units) (s .numbers) (s .memories) a (t .numbers) (t .memories)
+  pub words : Words32 (t .numbers)
+
+abbrev pub throughPerform : Entry
+throughPerform = record { Argument = Invocation; Answer = Parts; Promises = PerformPromises; calls = λ c. c ∷ [] }
+
+-- A call as numbers, with a text's units.
+pub record HostInvocation : Type 0 where
+  pub call : HostCall
+  pub units : List ℕ
+
+-- `ravinefork_perform` promises its contract; a reply's fields are an array of `u32`.
+pub record HostPromises (c : HostInvocation) (s : Lending) (r : Reply) (t : Lending) : Type 0 where
+  pub performed : HostPerformed (c .call) (c .units) (s .numbers) (s .memories) r (t .numbers) (t .memories)
+  pub words : Words32 (t .numbers)
+  pub fields : Words32 (r .fields)
+  pub fields-length : length (r .fields) ≡ objectSize
+
+-- numbers that are no call are none
+abbrev pub callsRead : CallRead → (units : List ℕ) → List Invocation
+callsRead NoCall us = []
+callsRead (Is c) us = record { call = c; units = us } ∷ []
+
+abbrev pub throughHost : Entry
+throughHost = record { Argument = HostInvocation; Answer = Reply; Promises = HostPromises; calls = λ c. callsRead (callOf (c .call)) (c .units) }
+
+-- A list of calls was made, each on what the last one left.
+pub data Made (e : Entry) : List (e .Argument) → Lending → List (e .Answer) → Lending → Type 0 where
+  none : {s : Lending} → Made e [] s [] s
+  call : {c : e .Argument} {cs : List (e .Argument)} {s t u : Lending} {a : e .Answer} {rs : List (e .Answer)}
+      → e .Promises c s a t → Made e cs t rs u → Made e (c ∷ cs) s (a ∷ rs) u
+
+-- the calls among what was passed
+unfoldable pub callsOf : (e : Entry) → List (e .Argument) → List Invocation
+callsOf e [] = []
+callsOf e (c ∷ cs) = e .calls c ++ callsOf e cs
+
+pub record ListsAgree (e : Entry) : Type 1 where
+  -- Two are equal but for marked pixels, whatever their numbers and memories are, and the same list of calls is made on both: all
+  -- answers are equal, and afterwards all numbers and every pixel left unmarked.
+  pub lists : (cs : List (e .Argument)) (m : Marks) (s t s′ t′ : Lending) (rs qs : List (e .Answer))
+      → EqualBut m s t → Made e cs s rs s′ → Made e cs t qs t′ → (rs ≡ qs) × EqualBut (marksOf (callsOf e cs) (deviceOf s) m) s′ t′
+  -- Where calls are looked at, they are after every list, so that the pixels do not go away.
+  pub looks : (cs : List (e .Argument)) (s s′ : Lending) (rs : List (e .Answer)) → refusesEvery s ≡ 0 → Made e cs s rs s′ → refusesEvery s′ ≡ 0
+  -- Where every call is refused, every number and every byte is as it was.
+  pub refuses : (cs : List (e .Argument)) (s s′ : Lending) (rs : List (e .Answer)) → (refusesEvery s ≡ 0 → ⊥) → Made e cs s rs s′ → s′ ≡ s
