@@ -1,11 +1,14 @@
--- The bench record: sizes, fresh records, vacant slots.
-use mathlib.Core.Bool.{false}
+-- The bench record: sizes, records by their fields, fresh records, vacant slots.
+use mathlib.Core.Bool.{Bool, false}
+use mathlib.Core.List.{List}
 use Prim.Native.Nat.{ℕ, _*_}
 use lib.ListN.{replicate}
+use Rattle.color.specs.declared.Colorref.{Colorref}
 use Rattle.gdi.specs.declared.Bitmap.{Bitmap}
 use Rattle.gdi.specs.declared.Dc.{Dc}
 use Rattle.gdi.specs.declared.DcSurface.{DcSurface}
 use Rattle.gdi.specs.declared.DcSurface.the-variants.{Screen, Memory}
+use Rattle.gdi.specs.declared.SelectedBitmap.{SelectedBitmap}
 use Rattle.gdi.specs.declared.SelectedBitmap.the-variants.{Unset}
 use Rattle.gdi.specs.declared.GdiObject.{GdiObject}
 use Rattle.gdi.specs.declared.GdiObject.the-variants.{Dc as DcOf, Bitmap as BitmapOf, Brush, Pen, Font}
@@ -24,22 +27,48 @@ bytesOf (Brush x) = 0
 bytesOf (Pen x) = 0
 bytesOf (Font x) = 0
 
+-- a record by its fields, in their order
+abbrev pub stateWith
+    : (panel-len store-len width height frame-counter next-handle : ℕ)
+    → (screen : Dc) (stock-dirty : Bool) (count : ℕ) (objects : List Slot)
+    → GdiState
+stateWith panel-len store-len width height frame-counter next-handle screen stock-dirty count objects =
+    record {
+      «panel_len» = panel-len;
+      «store_len» = store-len;
+      width = width;
+      height = height;
+      «frame_counter» = frame-counter;
+      «next_handle» = next-handle;
+      screen = screen;
+      «stock_dirty» = stock-dirty;
+      count = count;
+      objects = objects;
+    }
+
+-- a DC by its fields, in their order
+abbrev pub dcWith
+    : (surface : DcSurface) (bitmap : SelectedBitmap) (brush pen font : ℕ)
+    → (brush-color pen-color text-color : Colorref) (text-align : ℕ) (bk-color : Colorref) (bk-transparent : Bool)
+    → Dc
+dcWith surface bitmap brush pen font brush-color pen-color text-color text-align bk-color bk-transparent =
+    record {
+      surface = surface;
+      «selected_bitmap» = bitmap;
+      «selected_brush» = brush;
+      «selected_pen» = pen;
+      «selected_font» = font;
+      «brush_color» = brush-color;
+      «pen_color» = pen-color;
+      «text_color» = text-color;
+      «text_align» = text-align;
+      «bk_color» = bk-color;
+      «bk_transparent» = bk-transparent;
+    }
+
 -- the record of `Dc::default`, with the given surface
 abbrev pub dcOn : DcSurface → Dc
-dcOn s =
-    record {
-      surface = s;
-      «selected_bitmap» = Unset;
-      «selected_brush» = 0xDEAD_5701;
-      «selected_pen» = 0xDEAD_5707;
-      «selected_font» = 0xDEAD_5710;
-      «brush_color» = record { 0 = 0x00ff_ffff };
-      «pen_color» = record { 0 = 0 };
-      «text_color» = record { 0 = 0 };
-      «text_align» = 0;
-      «bk_color» = record { 0 = 0x00ff_ffff };
-      «bk_transparent» = false;
-    }
+dcOn s = dcWith s Unset 0xDEAD_5701 0xDEAD_5707 0xDEAD_5710 (record { 0 = 0x00ff_ffff }) (record { 0 = 0 }) (record { 0 = 0 }) 0 (record { 0 = 0x00ff_ffff }) false
 
 -- a new bitmap
 abbrev pub freshBitmap : (width height : ℕ) → Bitmap
@@ -55,23 +84,7 @@ screenDc = dcOn Screen
 
 -- what the logic reads past the end of a table: the first variant, of zeros
 abbrev pub noSlot : Slot
-noSlot =
-    record {
-      handle = 0;
-      object = DcOf (record {
-        surface = Screen;
-        «selected_bitmap» = Unset;
-        «selected_brush» = 0;
-        «selected_pen» = 0;
-        «selected_font» = 0;
-        «brush_color» = record { 0 = 0 };
-        «pen_color» = record { 0 = 0 };
-        «text_color» = record { 0 = 0 };
-        «text_align» = 0;
-        «bk_color» = record { 0 = 0 };
-        «bk_transparent» = false;
-      });
-    }
+noSlot = record { handle = 0; object = DcOf (dcWith Screen Unset 0 0 0 (record { 0 = 0 }) (record { 0 = 0 }) (record { 0 = 0 }) 0 (record { 0 = 0 }) false) }
 
 -- what a slot holds that no object has
 abbrev pub vacantSlot : Slot
@@ -79,16 +92,4 @@ vacantSlot = record { handle = 0; object = Brush (record { color = record { 0 = 
 
 -- a fresh bench has frame counter 0, next handle 0xDEAD_1000 and no created object
 abbrev pub fresh : (panel-len store-len width height : ℕ) → GdiState
-fresh panel-len store-len width height =
-    record {
-      «panel_len» = panel-len;
-      «store_len» = store-len;
-      width = width;
-      height = height;
-      «frame_counter» = 0;
-      «next_handle» = 0xDEAD_1000;
-      screen = screenDc;
-      «stock_dirty» = false;
-      count = 0;
-      objects = replicate 256 vacantSlot;
-    }
+fresh panel-len store-len width height = stateWith panel-len store-len width height 0 0xDEAD_1000 screenDc false 0 (replicate 256 vacantSlot)

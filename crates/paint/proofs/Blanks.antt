@@ -18,10 +18,9 @@ use Rattle.gdi.specs.declared.GdiState.{GdiState}
 use Rattle.gdi.specs.declared.Slot.{Slot}
 use Rattle.gdi.specs.declared.GdiObject.{GdiObject}
 use Rattle.gdi.specs.declared.GdiObject.the-variants.{Dc as DcOf, Bitmap as BitmapOf, Brush, Pen, Font}
-use Rattle.gdi.specs.Record.{size, bytesOf}
+use Rattle.gdi.specs.Record.{stateWith, size, bytesOf}
 use Rattle.gdi.specs.Stock.{isStock, stockBitmap}
 use Rattle.gdi.specs.Lookup.{handleAt, objectAt}
-use Rattle.gdi.specs.Updates.{withStoreLen}
 use Rattle.sound.specs.Sound.{startOf, used, isSound}
 use Rattle.sound.proofs.Sound.{parts, whole}
 use Rattle.sound.proofs.Bytes.{start-none}
@@ -154,6 +153,10 @@ module _ (b : GdiState) (o : GdiObject) (sound : isSound b ≡ true) (h : ℕ) w
           ap (λ (l : List Slot). locate l 2 h) (live-added b o sound)
           ∙ locate-new b (newSlot b o) h (eq-eqb (newHandle b) h (sym (eqb-true h (newHandle b) f))) (λ j lt. rw (eqb-true h (newHandle b) f) (none j lt)) 0 (b .count) 2 (omega arith) (start-none b)
       by false e false f = ap (λ (l : List Slot). locate l 2 h) (live-added b o sound) ∙ locate-old (newSlot b o) (live b) 2 h (ne-eqb (newHandle b) h (λ q. eqb-false h (newHandle b) f (sym q)))
+
+-- the record with another store length
+abbrev withStoreLen : GdiState → ℕ → GdiState
+withStoreLen b n = stateWith (b .«panel_len») n (b .width) (b .height) (b .«frame_counter») (b .«next_handle») (b .screen) (b .«stock_dirty») (b .count) (b .objects)
 
 -- every surface ends where the free part of the store begins: it lies in the store cut there
 abbrev cut : GdiState → GdiState
