@@ -10,7 +10,8 @@ use mir.Syntax.{w32, w64}
 use borrow.Author.Tests.{lt-ltb, le-ltb}
 use Rattle.laws.proofs.Integer.{difference, eq-parts}
 use Rattle.laws.proofs.Machine.{fits32, fits64, held32, held64, stored32, stored64, natural64}
-use Rattle.laws.specs.Integer.{positive, negative}
+use Rattle.laws.specs.Integer.{positive}
+use Rattle.laws.specs.Inner.{negative}
 use Rattle.bigendian.specs.BigEndian.{signed}
 
 pub below-half : (half : ℕ) {n : ℕ} → n < half → signed half n ≡ pos n

@@ -13,7 +13,8 @@ use Rattle.place.specs.declared.Site.{Site}
 use Rattle.place.specs.declared.SurfaceId.{SurfaceId}
 use Rattle.place.specs.declared.Target.{Target}
 use Rattle.place.specs.declared.Target.the-variants.{NoDc, NoSurface, On}
-use Rattle.place.specs.Place.{whereIs, targetOf, Placed}
+use Rattle.place.specs.Place.{whereIs, targetOf}
+use Rattle.place.specs.Inner.{Placed}
 use Rattle.dirty.specs.Dirty.{dirtiedIf}
 use Rattle.paint.specs.Memories.{Memories}
 use Rattle.paint.specs.Paint.{paintedBy, after}
@@ -22,8 +23,8 @@ use Rattle.plan.specs.declared.Point.{Point}
 use Rattle.plan.specs.Plan.{refuse}
 use Rattle.plan.specs.Stroke.{dirtiedBy, paintsOf}
 use Rattle.plan.specs.Drawing.{onSource, patternFill, blittedAt, blitStroke, blitOn, blit}
-use Rattle.plan.specs.Followed.{StrokedOn}
-use Rattle.transfer.specs.Transfer.{Beside, transferred}
+use Rattle.plan.proofs.Followed.{StrokedOn}
+use Rattle.transfer.specs.Inner.{Beside, transferred}
 use Rattle.transfer.proofs.Besides.{beside}
 use Rattle.draw.proofs.Targeted.{Targeted, no-dc, no-surface, on, Sourced, no-source-dc, no-source-surface, from-source}
 

@@ -1,7 +1,7 @@
 // Blit by DC handles, on a record lent as numbers.
 ghost use lib.ListN.{length};
 ghost use Rattle.numbers.specs.View.{view};
-ghost use Rattle.ready.specs.Ready.{Lent};
+ghost use Rattle.ready.proofs.Ready.{Lent};
 ghost use Rattle.paint.specs.Memories.{memories};
 ghost use Rattle.plan.specs.Drawing.{blit};
 ghost use Rattle.plan.specs.Answer.{partsOf};

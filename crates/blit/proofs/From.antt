@@ -16,10 +16,10 @@ use Rattle.words.proofs.Painted.{painted-none, painted-same, painted-cong}
 use Rattle.rop3.specs.Rop3.{applied}
 use Rattle.raster.specs.Raster.{ropped}
 use Rattle.clip_blit.specs.declared.BlitRect.{BlitRect}
-use Rattle.surface.specs.Region.{wordsOf, rect}
-use Rattle.surface.proofs.Rows.{row-fits, off-rows, no-rows}
+use Rattle.surface.specs.Region.{wordsOf}
+use Rattle.surface.proofs.Rows.{rect, row-fits, off-rows, no-rows}
 use Rattle.blit.specs.Blit.{Blit, clipped, region, sourceWord, rowHeld, blitFrom}
-use Rattle.blit.specs.Rows.{columns, rowAt, sourceRowAt, taken, held, rowFrom, rowsFrom, RoomFrom}
+use Rattle.blit.specs.Inner.{columns, rowAt, sourceRowAt, taken, held, rowFrom, rowsFrom, RoomFrom}
 use Rattle.blit.proofs.Pixels.{Empty, is-empty, across, down, held-same, boxed, none-drawn, taken-same, row-in-source}
 use Rattle.blit.proofs.Rows.{next-row, fits, in-row, taken-row, below}
 

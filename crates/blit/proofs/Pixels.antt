@@ -11,12 +11,12 @@ use Rattle.laws.specs.Integer.{positive}
 use Rattle.laws.proofs.Interval.{bounds}
 use Rattle.laws.proofs.Test.{both, together, not-left, not-right}
 use Rattle.clip_blit.specs.declared.BlitRect.{BlitRect}
-use Rattle.clip_blit.specs.Blit.{blitAxis, Clipped}
-use Rattle.clip_blit.proofs.Blit.{blit-clipped, blit-region}
-use Rattle.surface.specs.Region.{wordsOf, rect}
-use Rattle.surface.proofs.Rows.{column-lt, row-lt, row-fits, no-rows, no-columns}
+use Rattle.clip_blit.specs.Blit.{blitAxis}
+use Rattle.clip_blit.proofs.Blit.{Clipped, blit-clipped, blit-region}
+use Rattle.surface.specs.Region.{wordsOf}
+use Rattle.surface.proofs.Rows.{rect, column-lt, row-lt, row-fits, no-rows, no-columns}
 use Rattle.blit.specs.Blit.{Blit, clipped, region, marks, sourceWord, rowHeld}
-use Rattle.blit.specs.Rows.{taken, held}
+use Rattle.blit.specs.Inner.{taken, held}
 
 -- a box without columns or without rows
 abbrev pub Empty : BlitRect → Type 0

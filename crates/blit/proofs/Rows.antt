@@ -10,9 +10,9 @@ use Rattle.words.specs.Words.{painted}
 use Rattle.words.proofs.Painted.{painted-again, word-kept}
 use Rattle.raster.specs.Raster.{ropped}
 use Rattle.clip_blit.specs.declared.BlitRect.{BlitRect}
-use Rattle.surface.specs.Region.{wordsOf, rect}
-use Rattle.surface.proofs.Rows.{run-row, run-column, row-below, row-above}
-use Rattle.blit.specs.Rows.{columns, rowAt, sourceRowAt, taken, Across}
+use Rattle.surface.specs.Region.{wordsOf}
+use Rattle.surface.proofs.Rows.{rect, run-row, run-column, row-below, row-above}
+use Rattle.blit.specs.Inner.{columns, rowAt, sourceRowAt, taken, Across}
 
 -- One row more, drawn in a memory that is painted at Old: its own words are not painted yet, and what it takes is what Word says.
 pub next-row : (table pat : ℕ) (Word : ℕ → ℕ) (Read : List ℕ → ℕ → ℕ) (Old Row All : ℕ → Bool) (m₀ : List ℕ) {m m′ : List ℕ} → ((i : ℕ) → All i ≡ (Row i || Old i)) → ((i : ℕ) → Row i ≡ true → (2 * i + 1 < length m₀) × (Old i ≡ false)) → ((i : ℕ) → Row i ≡ true → Read (painted Old (ropped table pat Word m₀) m₀) i ≡ Word i) → m ≡ painted Old (ropped table pat Word m₀) m₀ → m′ ≡ painted Row (ropped table pat (Read m) m) m → m′ ≡ painted All (ropped table pat Word m₀) m₀

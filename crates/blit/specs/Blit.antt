@@ -1,13 +1,10 @@
 -- A blit, pixel by pixel: which pixels of the destination are drawn, and from which pixel of the source.
-use mathlib.Core.Path.{_≡_}
 use mathlib.Core.Bool.{Bool, _&&_}
 use mathlib.Core.List.{List}
-use mathlib.Core.Logic.{_⊎_}
-use Prim.Native.Nat.{ℕ, _+_, _-_, _*_, _/_, _%_, _≤_, _<_}
+use Prim.Native.Nat.{ℕ, _+_, _-_, _*_, _/_, _%_}
 use lib.Dec.{leb}
 use lib.IntN.{ℤ}
 use lib.ListN.{length}
-use Rattle.laws.specs.Interval.{between}
 use Rattle.laws.specs.Integer.{positive}
 use Rattle.words.specs.Words.{word, painted}
 use Rattle.raster.specs.Raster.{ropped}
@@ -58,18 +55,3 @@ unfoldable pub blitFrom : Blit → (table pat : ℕ) → (src m : List ℕ) → 
 blitFrom b table pat src m =
     painted (wordsOf (b .width) (λ c r. region b c r && rowHeld b (length src) r))
     (ropped table pat (λ i. word src (sourceWord b (i % b .width) (i / b .width))) m) m
-
--- memory m after a blit from its surface at word src-at to its surface at word at: source pixels are those before the call
-unfoldable pub blitWithin : Blit → (at src-at table pat : ℕ) → (m : List ℕ) → List ℕ
-blitWithin b at src-at table pat m =
-    painted (λ i. between at (at + b .width * b .height) i && wordsOf (b .width) (region b) (i - at))
-    (ropped table pat (λ i. word m (src-at + sourceWord b ((i - at) % b .width) ((i - at) / b .width))) m) m
-
--- Both surfaces lie in a memory of len bytes, and they are one or have no word in common.
-pub record Placed (len at src-at : ℕ) (b : Blit) : Type 0 where
-  pub some : 0 < b .width
-  pub narrow : b .width ≤ 4096
-  pub some-source : 0 < b .src-w
-  pub room : 2 * (at + b .width * b .height) ≤ len
-  pub room-source : 2 * (src-at + b .src-w * b .src-h) ≤ len
-  pub apart : ((at ≡ src-at) × (b .width ≡ b .src-w)) ⊎ ((at + b .width * b .height ≤ src-at) ⊎ (src-at + b .src-w * b .src-h ≤ at))

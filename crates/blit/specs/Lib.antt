@@ -1,2 +1,2 @@
 pub mod Blit
-pub mod Rows
+pub mod Inner

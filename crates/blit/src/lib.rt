@@ -3,9 +3,10 @@ ghost use mathlib.Core.Path.{_≡_};
 ghost use Prim.Native.Nat.{_+_, _-_, _≤_, _<_};
 ghost use lib.ListN.{length};
 ghost use Rattle.rop3.specs.Rop3.{tableOf};
-ghost use Rattle.surface.specs.Refusal.{refusalFrom, InOrder, drew, unlessRefused};
+ghost use Rattle.surface.specs.Refusal.{refusalFrom, drew, unlessRefused};
+ghost use Rattle.surface.proofs.Accepted.{InOrder};
 ghost use Rattle.blit.specs.Blit.{blitOf, marks, blitFrom};
-ghost use Rattle.blit.specs.Rows.{rowFrom, rowsFrom, RoomFrom};
+ghost use Rattle.blit.specs.Inner.{rowFrom, rowsFrom, RoomFrom};
 
 // The w by h pixels at sx, sy of src, drawn at dx, dy. A row whose part of src passes its end is skipped.
 pub fn blit_from_bytes_rop(

@@ -19,10 +19,11 @@ use Rattle.words.proofs.Painted.{painted-none, painted-same, word-kept}
 use Rattle.rop3.specs.Rop3.{applied}
 use Rattle.raster.specs.Raster.{ropped}
 use Rattle.clip_blit.specs.declared.BlitRect.{BlitRect}
-use Rattle.surface.specs.Region.{wordsOf, rect}
-use Rattle.surface.proofs.Rows.{run-row, row-fits, off-rows, no-rows}
-use Rattle.blit.specs.Blit.{Blit, clipped, region, sourceWord, blitWithin, Placed}
-use Rattle.blit.specs.Rows.{columns, rowAt, sourceRowAt, taken, rowWithin, rowsAt, rowsWithin, RoomWithin}
+use Rattle.surface.specs.Region.{wordsOf}
+use Rattle.surface.proofs.Rows.{rect, run-row, row-fits, off-rows, no-rows}
+use Rattle.blit.specs.Blit.{Blit, clipped, region, sourceWord}
+use Rattle.blit.specs.Inner.{columns, rowAt, sourceRowAt, taken}
+use Rattle.blit_within.specs.Inner.{blitWithin, Placed, rowWithin, rowsAt, rowsWithin, RoomWithin}
 use Rattle.blit.proofs.Pixels.{Empty, is-empty, across, down, boxed, none-drawn, taken-same}
 use Rattle.blit.proofs.Rows.{next-row, fits, in-row, taken-row, below, above}
 

@@ -3,8 +3,8 @@ ghost use mathlib.Core.Path.{_≡_};
 ghost use Prim.Native.Nat.{_≤_, _<_};
 ghost use lib.ListN.{length};
 ghost use Rattle.rop3.specs.Rop3.{tableOf};
-ghost use Rattle.blit.specs.Blit.{blitOf, marks, blitWithin, Placed};
-ghost use Rattle.blit.specs.Rows.{rowWithin, rowsWithin, RoomWithin};
+ghost use Rattle.blit.specs.Blit.{blitOf, marks};
+ghost use Rattle.blit_within.specs.Inner.{blitWithin, Placed, rowWithin, rowsWithin, RoomWithin};
 
 // A blit between two surfaces of one memory, or within one. at and src_at are the words where they begin. The source pixels
 // are those before the call. Whether a mark is due.

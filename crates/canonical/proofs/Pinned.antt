@@ -21,9 +21,9 @@ use Rattle.gdi.specs.declared.GdiState.{GdiState}
 use Rattle.gdi.specs.declared.Slot.{Slot}
 use Rattle.gdi.specs.Lookup.{slotAt}
 use Rattle.numbers.specs.Layout.{dcSize, objectSize, slotSize, headSize, panelLenPlace, storeLenPlace, widthPlace, heightPlace, framesLowPlace, framesHighPlace, nextHandlePlace, stockDirtyPlace, countPlace, screenPlace, slotsPlace, slotPlace, kindPlace, objectPlace, surfaceIn, presentIn, bitmapIn, bkTransparentIn, bitmapWidthIn, bitmapHeightIn, bitmapDirtyIn, fontHeightIn, bitmapSize, brushSize, penSize, fontSize}
-use Rattle.numbers.specs.Block.{at, flagOf, isFlag, bit, surfaceOf, surfaceNumber, bitmapOf, presentNumber, bitmapNumber, dcOf, isDc, objectOf, zerosFrom, isObject, ObjectCoded, slotOf, isSlot}
+use Rattle.numbers.specs.Block.{at, flagOf, isFlag, bit, surfaceOf, bitmapOf, dcOf, isDc, objectOf, zerosFrom, isObject, ObjectCoded, slotOf, isSlot}
 use Rattle.numbers.specs.View.{view, isRecord, Stored}
-use Rattle.numbers.proofs.Block.{no-kind, dcNumbers}
+use Rattle.numbers.proofs.Block.{surfaceNumber, presentNumber, bitmapNumber, no-kind, dcNumbers}
 use Rattle.numbers.proofs.Record.{parts}
 use Rattle.numbers.proofs.Seen.{part-at, count-seen}
 use Rattle.numbers.proofs.View.{benchNumbers, slot-seen}

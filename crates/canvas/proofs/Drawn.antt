@@ -19,7 +19,7 @@ use Rattle.plan.specs.declared.Area.{Area}
 use Rattle.plan.specs.declared.Point.{Point}
 use Rattle.canvas.specs.declared.Drawing.{Drawing}
 use Rattle.canvas.specs.declared.Drawing.the-variants.{Fill, Outline, Text}
-use Rattle.canvas.specs.Canvas.{marksOf, drawnOf, Countable}
+use Rattle.canvas.specs.Inner.{marksOf, drawnOf, Countable}
 
 -- one colour is PATCOPY's table on it
 solid : (P : ℕ → Bool) (c : ℕ) (m : List ℕ) → c < 65536 → painted P (λ _. c) m ≡ painted P (ropped 0xF0 c (λ _. 0) m) m

@@ -9,7 +9,7 @@ use lib.Seq.{drop-drop}
 use borrow.Rule.Slice.PartMut.{putMid}
 use Rattle.words.specs.Parts.{part}
 use Rattle.words.proofs.Parts.{length-part}
-use Rattle.surface.specs.Refusal.{InOrder}
+use Rattle.surface.proofs.Accepted.{InOrder}
 use Rattle.gdi.specs.Record.{size}
 use Rattle.place.specs.declared.Memory.{Memory}
 use Rattle.place.specs.declared.Memory.the-variants.{Panel, Store}

@@ -1,1 +1,1 @@
-pub mod Canvas
+pub mod Inner

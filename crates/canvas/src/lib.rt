@@ -1,11 +1,11 @@
 // Fills, outlines and text on a surface, wherever it lies: its part of one of the two memories is lent to the operation.
 ghost use mathlib.Core.Path.{_≡_};
 ghost use lib.ListN.{length};
-ghost use Rattle.surface.specs.Refusal.{InOrder};
+ghost use Rattle.surface.proofs.Accepted.{InOrder};
 ghost use Rattle.place.specs.Place.{Within};
 ghost use Rattle.paint.specs.Memories.{memories, widthOf, over};
 ghost use Rattle.plan.specs.Drawing.{marksAt};
-ghost use Rattle.canvas.specs.Canvas.{Countable, marksOf, drawnOf};
+ghost use Rattle.canvas.specs.Inner.{marksOf, drawnOf, Countable};
 use color::Rgb565;
 use place::Memory;
 use place::Place;

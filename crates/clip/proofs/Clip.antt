@@ -9,7 +9,8 @@ use lib.IntN.{ℤ, pos, negsuc, _+ℤ_}
 use lib.Signed.{leZ, ltZ}
 use borrow.Author.Tests.{leb-true}
 use Rattle.laws.specs.Interval.{between}
-use Rattle.laws.specs.Integer.{positive, negative}
+use Rattle.laws.specs.Integer.{positive}
+use Rattle.laws.specs.Inner.{negative}
 use Rattle.laws.proofs.Integer.{sum, le-parts, lt-parts, one-part}
 use Rattle.laws.proofs.Interval.{between-no}
 use Rattle.laws.proofs.Test.{same-order}

@@ -9,15 +9,25 @@ use lib.IntN.{ℤ, pos, negsuc, _+ℤ_, _-ℤ_}
 use lib.Signed.{leZ, ltZ}
 use borrow.Author.Tests.{ltb-true, ltb-false}
 use Rattle.laws.specs.Interval.{between}
-use Rattle.laws.specs.Integer.{positive, negative}
+use Rattle.laws.specs.Integer.{positive}
+use Rattle.laws.specs.Inner.{negative}
 use Rattle.laws.proofs.Integer.{sum, difference, eq-parts, le-moved, lt-moved}
 use Rattle.laws.proofs.Interval.{Lies, where-is, between-yes, between-no, bounds}
 use Rattle.laws.proofs.Test.{both}
 use Rattle.clip.specs.declared.Span.{Span}
+use Rattle.clip_blit.specs.declared.BlitSpan.{BlitSpan}
 use Rattle.clip_blit.specs.declared.BlitRect.{BlitRect}
 use Rattle.clip.specs.Clip.{nearest, covers, clippedAxis}
-use Rattle.clip_blit.specs.Blit.{sourceAt, inside, drawn, drawnAt, shifted, placed, nothing, blitAxis, blitRect, Clipped}
+use Rattle.clip_blit.specs.Blit.{sourceAt, inside, drawn, drawnAt, shifted, placed, nothing, blitAxis, blitRect}
 use Rattle.clip.proofs.Clip.{clip-covers, clip-within}
+
+-- The stretch b lies on the destination and its source on the source; it holds the drawn coordinates, each with its own source.
+pub record Clipped (d s w : ℤ) (dst-side src-side : ℕ) (b : BlitSpan) : Type 0 where
+  pub ordered : b .from ≤ b .to
+  pub within : b .to ≤ dst-side
+  pub source : b .src + (b .to - b .from) ≤ src-side
+  pub exact : (i : ℕ) → i < dst-side → between (b .from) (b .to) i ≡ drawn d s w src-side i
+  pub taken : (i : ℕ) → b .from ≤ i → i < b .to → pos (b .src + (i - b .from)) ≡ sourceAt d s i
 
 inside-parts : (z : ℤ) (side : ℕ) → inside z side ≡ true → (negative z ≡ 0) × (positive z < side)
 inside-parts (pos k) side e = (refl, bounds 0 side k e .1)

@@ -1,11 +1,9 @@
 -- The part of a blit that is drawn, one axis at a time, and where in the source it is taken from.
-use mathlib.Core.Path.{_≡_}
 use mathlib.Core.Bool.{Bool, _&&_, cond}
-use Prim.Native.Nat.{ℕ, _+_, _-_, _≤_, _<_}
+use Prim.Native.Nat.{ℕ}
 use lib.Dec.{ltb}
 use lib.IntN.{ℤ, pos, _+ℤ_, _-ℤ_}
 use lib.Signed.{leZ, ltZ}
-use Rattle.laws.specs.Interval.{between}
 use Rattle.laws.specs.Integer.{positive}
 use Rattle.clip.specs.declared.Span.{Span}
 use Rattle.clip_blit.specs.declared.BlitSpan.{BlitSpan}
@@ -59,11 +57,3 @@ blitRect dx dy sx sy w h dst-w dst-h src-w src-h = record {
   «src_x0» = blitAxis dx sx w dst-w src-w .src;
   «src_y0» = blitAxis dy sy h dst-h src-h .src;
 }
-
--- The stretch b lies on the destination and its source on the source; it holds the drawn coordinates, each with its own source.
-pub record Clipped (d s w : ℤ) (dst-side src-side : ℕ) (b : BlitSpan) : Type 0 where
-  pub ordered : b .from ≤ b .to
-  pub within : b .to ≤ dst-side
-  pub source : b .src + (b .to - b .from) ≤ src-side
-  pub exact : (i : ℕ) → i < dst-side → between (b .from) (b .to) i ≡ drawn d s w src-side i
-  pub taken : (i : ℕ) → b .from ≤ i → i < b .to → pos (b .src + (i - b .from)) ≡ sourceAt d s i

@@ -7,7 +7,7 @@ ghost use Rattle.gdi.specs.Record.{defaultDc};
 ghost use Rattle.numbers.specs.View.{view};
 ghost use Rattle.sound.specs.Sound.{objectFits};
 ghost use Rattle.plan.specs.Create.{sideOf, createOf, createBitmap};
-ghost use Rattle.ready.specs.Ready.{Lent};
+ghost use Rattle.ready.proofs.Ready.{Lent};
 ghost use Rattle.paint.specs.Memories.{memories};
 ghost use mathlib.Core.List.{List};
 ghost use Prim.Native.Nat.{ℕ};

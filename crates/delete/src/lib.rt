@@ -3,7 +3,7 @@ ghost use mathlib.Core.Bool.{true};
 ghost use lib.ListN.{length};
 ghost use Rattle.numbers.specs.View.{view};
 ghost use Rattle.plan.specs.Delete.{delete, remove};
-ghost use Rattle.ready.specs.Ready.{Lent};
+ghost use Rattle.ready.proofs.Ready.{Lent};
 ghost use Rattle.paint.specs.Memories.{memories};
 ghost use mathlib.Core.List.{List};
 ghost use Prim.Native.Nat.{ℕ};

@@ -12,11 +12,12 @@ use Rattle.gdi.specs.declared.GdiObject.{GdiObject}
 use Rattle.gdi.specs.declared.GdiObject.the-variants.{Bitmap as BitmapOf}
 use Rattle.gdi.specs.Lookup.{slotAt, handleAt, objectAt}
 use Rattle.gdi.specs.Updates.{withStockDirty, withObjects}
-use Rattle.numbers.specs.Layout.{dcSize, objectSize, slotSize, framesLowPlace, framesHighPlace, stockDirtyPlace, countPlace, screenPlace, slotPlace, handlePlace, kindPlace, objectPlace, bitmapDirtyPlace, bitmapDirtyIn}
-use Rattle.numbers.specs.Block.{bitmapFields, at, isDc, isObject, slotOf, ObjectCoded, SlotCoded}
+use Rattle.numbers.specs.Layout.{dcSize, objectSize, slotSize, framesLowPlace, framesHighPlace, stockDirtyPlace, countPlace, screenPlace, slotPlace, handlePlace, kindPlace, objectPlace, bitmapDirtyIn}
+use Rattle.numbers.specs.Block.{bitmapFields, at, isDc, isObject, slotOf, ObjectCoded}
 use Rattle.numbers.specs.View.{view, isRecord, Stored}
+use Rattle.numbers.proofs.Block.{SlotCoded}
 use Rattle.numbers.proofs.Record.{parts}
-use Rattle.numbers.proofs.Seen.{handle-seen, object-seen, object-bitmap, object-part, part-at, by-kind}
+use Rattle.numbers.proofs.Seen.{bitmapDirtyPlace, handle-seen, object-seen, object-bitmap, object-part, part-at, by-kind}
 use Rattle.numbers.proofs.View.{slot-seen}
 use Rattle.place.specs.declared.SurfaceId.{SurfaceId}
 use Rattle.dirty.specs.Dirty.{objectDirtied, slotDirtied, framed, dirtied, dirtiedIf}

@@ -10,13 +10,14 @@ use Rattle.text.specs.Ink.{unitCount}
 use Rattle.gdi.specs.declared.GdiState.{GdiState}
 use Rattle.gdi.specs.declared.Dc.{Dc}
 use Rattle.numbers.specs.View.{view, Stored}
-use Rattle.ready.specs.Ready.{Ready}
+use Rattle.ready.proofs.Ready.{Ready}
 use Rattle.place.specs.declared.Place.{Place}
 use Rattle.place.specs.declared.Site.{Site}
 use Rattle.place.specs.declared.SurfaceId.{SurfaceId}
 use Rattle.place.specs.declared.Target.{Target}
 use Rattle.place.specs.declared.Target.the-variants.{On}
-use Rattle.place.specs.Place.{targetOf, Within, Placed}
+use Rattle.place.specs.Place.{targetOf, Within}
+use Rattle.place.specs.Inner.{Placed}
 use Rattle.place.proofs.Same.{Still}
 use Rattle.dirty.specs.Dirty.{dirtiedIf}
 use Rattle.paint.specs.Memories.{Memories, widthOf, over}
@@ -26,9 +27,9 @@ use Rattle.plan.specs.declared.Point.{Point}
 use Rattle.plan.specs.Plan.{Plan, refuse}
 use Rattle.plan.specs.Stroke.{dirtiedBy, paintsOf}
 use Rattle.plan.specs.Drawing.{patterned, marksAt, patternFillOn, patternFill, rectangleOn, rectangle, textOn, text}
-use Rattle.plan.specs.Followed.{StrokedOn}
+use Rattle.plan.proofs.Followed.{StrokedOn}
 use Rattle.canvas.specs.declared.Drawing.{Drawing}
-use Rattle.canvas.specs.Canvas.{regionOf, tableFor, marksOf, drawnOf, strokeOf}
+use Rattle.canvas.specs.Inner.{regionOf, tableFor, marksOf, drawnOf, strokeOf}
 use Rattle.draw.proofs.Targeted.{Targeted, on}
 
 -- the calls by their DC's target

@@ -1,7 +1,7 @@
 // Text by a DC's handle, on a record lent as numbers.
 ghost use lib.ListN.{length};
 ghost use Rattle.numbers.specs.View.{view};
-ghost use Rattle.ready.specs.Ready.{Lent};
+ghost use Rattle.ready.proofs.Ready.{Lent};
 ghost use Rattle.paint.specs.Memories.{memories};
 ghost use Rattle.plan.specs.Drawing.{text};
 ghost use Rattle.plan.specs.Answer.{partsOf};

@@ -26,8 +26,8 @@ use Rattle.gdi.specs.declared.Font.{Font as FontRecord}
 use Rattle.gdi.specs.declared.GdiObject.{GdiObject}
 use Rattle.gdi.specs.declared.GdiObject.the-variants.{Bitmap as BitmapOf, Brush, Pen, Font}
 use Rattle.numbers.specs.Layout.{objectSize, slotSize, handlePlace, kindPlace, objectPlace}
-use Rattle.numbers.specs.Block.{at, flagOf, isFlag, bit, surfaceOf, surfaceNumber, bitmapOf, presentNumber, bitmapNumber, dcOf, isDc, objectOf, isObject, DcCoded, ObjectCoded, SlotCoded}
-use Rattle.numbers.proofs.Block.{flag-back, flag-flag, dcNumbers, lentBack, lent-back}
+use Rattle.numbers.specs.Block.{at, flagOf, isFlag, bit, surfaceOf, bitmapOf, dcOf, isDc, objectOf, isObject, ObjectCoded}
+use Rattle.numbers.proofs.Block.{surfaceNumber, presentNumber, bitmapNumber, DcCoded, SlotCoded, flag-back, flag-flag, dcNumbers, lentBack, lent-back}
 
 -- what was turned into numbers comes back
 surface-back : (s : DcSurface) → surfaceOf (surfaceNumber s) ≡ s

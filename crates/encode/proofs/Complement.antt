@@ -9,7 +9,8 @@ use lib.IntN.{ℤ, pos, natAbs, _+ℤ_, _-ℤ_}
 use mir.Val.{Fits, SFits}
 use mir.Syntax.{w32, w64}
 use borrow.Author.Tests.{ltb-true}
-use Rattle.laws.specs.Integer.{positive, negative}
+use Rattle.laws.specs.Integer.{positive}
+use Rattle.laws.specs.Inner.{negative}
 use Rattle.laws.proofs.Integer.{sum, difference, lt-parts, eq-parts, tested-negative, tested-positive, not-negative, abs-positive}
 use Rattle.laws.proofs.Machine.{range32, fits64, held32, held64, stored32, stored64, cast-held}
 use Rattle.bigendian.specs.BigEndian.{signed32}

@@ -15,7 +15,8 @@ use Rattle.font.specs.Font.{glyphs, inkAt}
 use Rattle.surface.specs.Region.{wordsOf}
 use Rattle.fill.specs.Fill.{filled, fillMarks}
 use Rattle.outline.specs.Outline.{outlined, outlineMarks}
-use Rattle.blit.specs.Blit.{blitOf, blitFrom, blitWithin}
+use Rattle.blit.specs.Blit.{blitOf, blitFrom}
+use Rattle.blit_within.specs.Inner.{blitWithin}
 use Rattle.text.specs.Ink.{charInk}
 use Rattle.gdi.specs.declared.GdiState.{GdiState}
 use Rattle.gdi.specs.declared.GdiObject.{GdiObject}
@@ -29,7 +30,7 @@ use Rattle.plan.specs.Answer.{answered}
 use Rattle.plan.specs.Plan.{refuse}
 use Rattle.plan.specs.Create.{createOf, createBitmap}
 use Rattle.p6.specs.P6.{header, digits}
-use Rattle.p6.specs.Put.{joined}
+use Rattle.p6.specs.Joined.{joined}
 use Rattle.pixmap.specs.Pixmap.{isPicture, pictureOf}
 
 -- COLORREF 0x00C0C0C0 packs to 0xC618, 0xFF000000 to 0

@@ -12,7 +12,7 @@ use Rattle.gdi.specs.Updates.{withSides}
 use Rattle.gdi.proofs.Scan.{found-count}
 use Rattle.sound.specs.Sound.{used, isSound}
 use Rattle.sound.proofs.Sound.{parts, whole}
-use Rattle.ready.specs.Ready.{Ready}
+use Rattle.ready.proofs.Ready.{Ready}
 use Rattle.place.specs.declared.Memory.{Memory}
 use Rattle.place.specs.declared.Memory.the-variants.{Panel as PanelMemory, Store}
 use Rattle.place.specs.declared.SurfaceId.{SurfaceId}
@@ -32,7 +32,7 @@ use Rattle.paint.proofs.Draws.{drawn-panel, drawn-store, drawn-looks}
 use Rattle.paint.proofs.Blanks.{blank-panel, blank-store}
 use Rattle.paint.proofs.Closed.{closed-panel, closed-store}
 use Rattle.plan.specs.Plan.{Plan}
-use Rattle.plan.specs.Stroke.{Stroke, dirtiedBy, paintsOf}
+use Rattle.plan.specs.Stroke.{Stroke, paintsOf}
 use Rattle.plan.proofs.Strokes.{dirtied-by-still}
 use Rattle.execution.proofs.Shape.{Shape, record-only, strokes, creation, deletion, resizing}
 

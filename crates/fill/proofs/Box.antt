@@ -15,8 +15,8 @@ use Rattle.words.proofs.Painted.{painted-none, painted-cong}
 use Rattle.clip.specs.declared.Rect.{Rect}
 use Rattle.clip.specs.Clip.{clippedRect}
 use Rattle.clip.proofs.Clip.{rect-covers, rect-within}
-use Rattle.surface.specs.Region.{wordsOf, rect, box}
-use Rattle.surface.proofs.Rows.{column-lt, row-lt, no-rows, no-columns}
+use Rattle.surface.specs.Region.{wordsOf, box}
+use Rattle.surface.proofs.Rows.{rect, column-lt, row-lt, no-rows, no-columns}
 use Rattle.fill.specs.Fill.{fillMarks}
 
 module _ (width height : ℕ) (x y w h : ℤ) {r : Rect} (is : r ≡ clippedRect x y w h width height) where

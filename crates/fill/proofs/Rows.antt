@@ -9,8 +9,8 @@ use Rattle.laws.specs.Interval.{between}
 use Rattle.laws.proofs.Interval.{bounds, between-cong}
 use Rattle.words.specs.Words.{word, painted}
 use Rattle.words.proofs.Painted.{painted-none, painted-again, painted-cong, word-kept}
-use Rattle.surface.specs.Region.{wordsOf, rect}
-use Rattle.surface.proofs.Rows.{run-row, row-below, no-rows, off-rows}
+use Rattle.surface.specs.Region.{wordsOf}
+use Rattle.surface.proofs.Rows.{rect, run-row, row-below, no-rows, off-rows}
 
 module _ (W x0 n y0 : ℕ) (v : ℕ → ℕ) (m₀ : List ℕ) where
   abbrev done : ℕ → ℕ → Bool

@@ -3,8 +3,10 @@ ghost use mathlib.Core.Path.{_≡_};
 ghost use Prim.Native.Nat.{_+_, _*_, _≤_, _<_};
 ghost use lib.ListN.{length};
 ghost use Rattle.words.specs.Words.{painted};
-ghost use Rattle.surface.specs.Region.{wordsOf, rect};
-ghost use Rattle.surface.specs.Refusal.{refusal, InOrder, drew, unlessRefused};
+ghost use Rattle.surface.specs.Region.{wordsOf};
+ghost use Rattle.surface.specs.Refusal.{refusal, drew, unlessRefused};
+ghost use Rattle.surface.proofs.Rows.{rect};
+ghost use Rattle.surface.proofs.Accepted.{InOrder};
 ghost use Rattle.fill.specs.Fill.{filled, fillMarks};
 
 // The w by h pixels at x, y in one colour.

@@ -5,8 +5,10 @@ ghost use lib.ListN.{length};
 ghost use Rattle.words.specs.Words.{painted};
 ghost use Rattle.rop3.specs.Rop3.{tableOf};
 ghost use Rattle.raster.specs.Raster.{ropped};
-ghost use Rattle.surface.specs.Region.{wordsOf, rect};
-ghost use Rattle.surface.specs.Refusal.{refusal, InOrder, drew, unlessRefused};
+ghost use Rattle.surface.specs.Region.{wordsOf};
+ghost use Rattle.surface.specs.Refusal.{refusal, drew, unlessRefused};
+ghost use Rattle.surface.proofs.Rows.{rect};
+ghost use Rattle.surface.proofs.Accepted.{InOrder};
 ghost use Rattle.fill.specs.Fill.{filledRop, fillMarks};
 
 // Pattern and destination under a raster code, at the w by h pixels at x, y. The source operand is 0.

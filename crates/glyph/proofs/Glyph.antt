@@ -7,17 +7,19 @@ use native.Mathlib.Omega.{arith}
 use lib.IntN.{ℤ, pos}
 use lib.ListN.{getD}
 use Rattle.laws.specs.Interval.{between}
-use Rattle.laws.specs.Integer.{positive, negative}
+use Rattle.laws.specs.Integer.{positive}
+use Rattle.laws.specs.Inner.{negative}
 use Rattle.laws.proofs.Interval.{Lies, inside, before, behind, where-is, between-yes, between-no, bounds}
 use Rattle.laws.proofs.Test.{and-false, not-left}
 use Rattle.clip.specs.Clip.{covers}
 use Rattle.clip.proofs.Clip.{covers-parts}
 use Rattle.font.specs.Font.{glyphOf, inkAt}
 use Rattle.font.proofs.Columns.{five-columns}
-use Rattle.surface.specs.Region.{wordsOf, rect}
-use Rattle.surface.proofs.Rows.{column-lt, row-lt, run-row, run-column, row-below, no-rows}
+use Rattle.surface.specs.Region.{wordsOf}
+use Rattle.surface.proofs.Rows.{rect, column-lt, row-lt, run-row, run-column, row-below, no-rows}
 use Rattle.glyph.specs.declared.Stretch.{Stretch}
-use Rattle.glyph.specs.Parts.{past, rowInk, bitmapInk, Narrow, Shown}
+use Rattle.glyph.specs.Past.{past}
+use Rattle.glyph.specs.Inner.{rowInk, bitmapInk, Narrow, Shown}
 use Rattle.glyph.proofs.Reach.{past-parts}
 
 -- the ink of a glyph's rows in n columns from x0 on and rows y0 to r

@@ -4,12 +4,14 @@ use Prim.Native.Nat.{ℕ, _+_, _-_, _≤_, _<_, min}
 use native.Mathlib.Omega.{arith}
 use lib.IntN.{ℤ, pos, _+ℤ_, _-ℤ_}
 use Rattle.laws.specs.Interval.{between}
-use Rattle.laws.specs.Integer.{positive, negative}
+use Rattle.laws.specs.Integer.{positive}
+use Rattle.laws.specs.Inner.{negative}
 use Rattle.laws.proofs.Integer.{sum, difference, one-part, eq-parts}
 use Rattle.clip.specs.Clip.{nearest, covers, clippedAxis}
 use Rattle.clip.proofs.Clip.{nearest-parts, clip-covers}
 use Rattle.glyph.specs.declared.Stretch.{Stretch}
-use Rattle.glyph.specs.Parts.{past, Shown}
+use Rattle.glyph.specs.Past.{past}
+use Rattle.glyph.specs.Inner.{Shown}
 
 pub plus-zero : (z : ℤ) → z +ℤ pos 0 ≡ z
 plus-zero z = eq-parts (z +ℤ pos 0) z (omega (arith, sum z (pos 0)))

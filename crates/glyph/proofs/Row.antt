@@ -16,7 +16,7 @@ use Rattle.laws.proofs.Test.{not-left, not-right}
 use Rattle.words.specs.Words.{painted, word}
 use Rattle.words.proofs.Painted.{painted-none, painted-again, painted-set, word-again}
 use Rattle.font.specs.Font.{inkAt}
-use Rattle.glyph.specs.Parts.{rowInk}
+use Rattle.glyph.specs.Inner.{rowInk}
 
 -- the code's test of a bit
 pub ink-yes : (row k : ℕ) → k < 8 → row / 2 ^ (7 - k) % 2 ≡ 1 → inkAt row k ≡ true

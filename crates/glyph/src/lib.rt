@@ -7,8 +7,8 @@ ghost use lib.ListN.{length};
 ghost use Rattle.words.specs.Words.{painted};
 ghost use Rattle.font.specs.Font.{inkAt};
 ghost use Rattle.surface.specs.Region.{wordsOf};
-ghost use Rattle.surface.specs.Refusal.{InOrder};
-ghost use Rattle.glyph.specs.Parts.{rowInk, bitmapInk, Narrow, Shown};
+ghost use Rattle.surface.proofs.Accepted.{InOrder};
+ghost use Rattle.glyph.specs.Inner.{rowInk, bitmapInk, Narrow, Shown};
 
 // The coordinates from .. to of a surface's side; the first of them lies skip past where a glyph starts.
 pub struct Stretch {

@@ -18,8 +18,9 @@ use Rattle.gdi.specs.declared.GdiObject.{GdiObject}
 use Rattle.gdi.specs.Record.{vacantSlot}
 use Rattle.gdi.specs.Updates.{withObjects}
 use Rattle.numbers.specs.Layout.{dcSize, slotSize, headSize, recordSize, nextHandlePlace, stockDirtyPlace, countPlace, screenPlace, slotPlace}
-use Rattle.numbers.specs.Block.{at, isDc, slotOf, isSlot, SlotCoded}
+use Rattle.numbers.specs.Block.{at, isDc, slotOf, isSlot}
 use Rattle.numbers.specs.View.{slotIn, tableOf, view, isRecord, Stored}
+use Rattle.numbers.proofs.Block.{SlotCoded}
 use Rattle.numbers.proofs.Record.{parts, by-slots}
 use Rattle.numbers.proofs.View.{length-table, table-set}
 use Rattle.numbers.proofs.Slots.{lentSlot, slotBack, lent-long, slot-back}

@@ -9,7 +9,8 @@ use mir.Syntax.{w32, w64}
 use mir.Val.{SFits, toZ, ofZ}
 use mir.ValLaws.{toZ-ofZ}
 use borrow.Author.Tests.{lt-ltb}
-use Rattle.laws.specs.Integer.{positive, negative}
+use Rattle.laws.specs.Integer.{positive}
+use Rattle.laws.specs.Inner.{negative}
 use Rattle.laws.proofs.Integer.{sum, difference}
 
 -- the range of a word, over the parts

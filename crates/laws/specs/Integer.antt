@@ -1,11 +1,7 @@
--- An integer as the difference of two naturals, of which one is 0: z = positive z - negative z.
-use Prim.Native.Nat.{ℕ, suc}
+-- The positive part of an integer: the integer itself, or 0 if it is negative.
+use Prim.Native.Nat.{ℕ}
 use lib.IntN.{ℤ, pos, negsuc}
 
 abbrev pub positive : ℤ → ℕ
 positive (pos n) = n
 positive (negsuc n) = 0
-
-abbrev pub negative : ℤ → ℕ
-negative (pos n) = 0
-negative (negsuc n) = suc n

@@ -2,3 +2,4 @@ pub mod Interval
 pub mod Integer
 pub mod Test
 pub mod Sum
+pub mod Inner

@@ -7,7 +7,7 @@ use Rattle.gdi.specs.declared.DcFound.the-variants.{Is}
 use Rattle.gdi.specs.declared.GdiState.{GdiState}
 use Rattle.gdi.specs.declared.Spot.{Spot}
 use Rattle.gdi.specs.Lookup.{dcOf}
-use Rattle.lookup.specs.Spotted.{Spotted}
+use Rattle.lookup.specs.Inner.{Spotted}
 
 -- the DC that was found stands at its spot
 pub spotted : {b : GdiState} {h : ℕ} {q : DcFound} {p : Spot} {d : Dc} → q ≡ dcOf b h → q ≡ Is p d → Spotted b h p

@@ -19,12 +19,12 @@ use Rattle.gdi.specs.Lookup.{objectAt, findOf}
 use Rattle.gdi.specs.Updates.{withScreen, storeOf}
 use Rattle.gdi.proofs.Scan.{scan-handle, dc-found}
 use Rattle.numbers.specs.Layout.{dcSize, objectSize, slotSize, headSize, stockDirtyPlace, countPlace, screenPlace, slotPlace, handlePlace, kindPlace, objectPlace}
-use Rattle.numbers.specs.Block.{at, DcCoded, ObjectCoded, SlotCoded}
+use Rattle.numbers.specs.Block.{at, ObjectCoded}
 use Rattle.numbers.specs.View.{view, isRecord, Stored}
-use Rattle.numbers.proofs.Block.{lentBack, lent-back, dc-object}
+use Rattle.numbers.proofs.Block.{DcCoded, SlotCoded, lentBack, lent-back, dc-object}
 use Rattle.numbers.proofs.Record.{parts}
 use Rattle.numbers.proofs.Seen.{found-in, handle-seen, object-seen, object-part, part-at, by-kind}
-use Rattle.lookup.specs.Spotted.{Spotted}
+use Rattle.lookup.specs.Inner.{Spotted}
 use Rattle.numbers.proofs.Updates.{screen-seen as screen-same}
 use Rattle.numbers.proofs.Kept.{Kept, kept-part, table-kept, front-record, front-rest, slot-stored}
 

@@ -1,1 +1,1 @@
-pub mod Spotted
+pub mod Inner

@@ -9,7 +9,7 @@ ghost use Rattle.gdi.specs.Updates.{storeOf};
 ghost use Rattle.numbers.specs.Layout.{objectSize, slotSize, kindPlace, objectPlace};
 ghost use Rattle.numbers.specs.Block.{at, objectOf};
 ghost use Rattle.numbers.specs.View.{view, isRecord, Stored};
-ghost use Rattle.lookup.specs.Spotted.{Spotted};
+ghost use Rattle.lookup.specs.Inner.{Spotted};
 use color::Colorref;
 use gdi::Dc;
 use gdi::DcFound;

@@ -1,4 +1,4 @@
--- Laws of blocks of numbers. Assumes nothing.
+-- Numbers that code a DC and a slot, and laws of blocks of numbers. Assumes nothing.
 use mathlib.Core.Bool.{Bool, true, false}
 use mathlib.Core.List.{List, [], _∷_, _++_, append-nil}
 use mathlib.Core.Path.{_≡_, refl, _∙_, ap}
@@ -8,9 +8,37 @@ use lib.ListN.{length, take, drop}
 use lib.Seq.{sets, sets-eq, drop-length, drop-drop}
 use borrow.Author.Tests.{ne-eqb}
 use Rattle.words.specs.Parts.{withPart}
+use Rattle.gdi.specs.declared.DcSurface.{DcSurface}
+use Rattle.gdi.specs.declared.DcSurface.the-variants.{Screen, Memory}
+use Rattle.gdi.specs.declared.SelectedBitmap.{SelectedBitmap}
+use Rattle.gdi.specs.declared.SelectedBitmap.the-variants.{Unset, Chosen}
 use Rattle.gdi.specs.declared.Dc.{Dc}
 use Rattle.gdi.specs.declared.GdiObject.the-variants.{Dc as DcOf}
-use Rattle.numbers.specs.Block.{flagOf, isFlag, bit, surfaceNumber, presentNumber, bitmapNumber, objectOf, isObject, DcCoded, ObjectCoded}
+use Rattle.gdi.specs.declared.Slot.{Slot}
+use Rattle.numbers.specs.Block.{flagOf, isFlag, bit, dcOf, isDc, objectOf, isObject, slotOf, isSlot, ObjectCoded}
+
+-- the number of a surface: 0 the screen, 1 memory
+abbrev pub surfaceNumber : DcSurface → ℕ
+surfaceNumber Screen = 0
+surfaceNumber Memory = 1
+
+-- the numbers of a selected bitmap: whether there is one, and its handle, 0 if there is none
+abbrev pub presentNumber : SelectedBitmap → ℕ
+presentNumber Unset = 0
+presentNumber (Chosen h) = 1
+
+abbrev pub bitmapNumber : SelectedBitmap → ℕ
+bitmapNumber Unset = 0
+bitmapNumber (Chosen h) = h
+
+-- Numbers that are a DC, a slot; and which one.
+pub record DcCoded (d : Dc) (l : List ℕ) : Type 0 where
+  pub is-dc : isDc l ≡ true
+  pub same : dcOf l ≡ d
+
+pub record SlotCoded (s : Slot) (l : List ℕ) : Type 0 where
+  pub is-slot : isSlot l ≡ true
+  pub same : slotOf l ≡ s
 
 -- numbers of no kind are no object
 pub no-kind : (kind : ℕ) (l : List ℕ) → (kind ≡ 0 → ⊥) → (kind ≡ 1 → ⊥) → (kind ≡ 2 → ⊥) → (kind ≡ 3 → ⊥) → (kind ≡ 4 → ⊥) → false ≡ isObject kind l

@@ -17,8 +17,9 @@ use Rattle.gdi.specs.declared.Slot.{Slot}
 use Rattle.gdi.specs.Record.{vacantSlot}
 use Rattle.gdi.specs.Updates.{withObjects}
 use Rattle.numbers.specs.Layout.{dcSize, slotSize, recordSize, nextHandlePlace, stockDirtyPlace, countPlace, screenPlace, slotsPlace, slotPlace}
-use Rattle.numbers.specs.Block.{at, isDc, slotOf, isSlot, SlotCoded}
+use Rattle.numbers.specs.Block.{at, isDc, slotOf, isSlot}
 use Rattle.numbers.specs.View.{slotIn, tableOf, view, isRecord, Stored}
+use Rattle.numbers.proofs.Block.{SlotCoded}
 use Rattle.numbers.proofs.Record.{parts}
 use Rattle.numbers.proofs.Seen.{part-at}
 use Rattle.numbers.proofs.Updates.{objects-seen}

@@ -18,11 +18,18 @@ use Rattle.gdi.specs.declared.GdiObject.the-variants.{Dc as DcOf, Bitmap, Brush
 use Rattle.gdi.specs.declared.Found.the-variants.{At}
 use Rattle.gdi.specs.Lookup.{handleAt, objectAt, findOf}
 use Rattle.gdi.proofs.Scan.{found-count}
-use Rattle.numbers.specs.Layout.{dcSize, objectSize, slotSize, recordSize, panelLenPlace, storeLenPlace, widthPlace, heightPlace, countPlace, screenPlace, slotPlace, handlePlace, kindPlace, objectPlace, bitmapHeightPlace, bitmapHeightIn, colorIn, penWidthIn, fontHeightIn}
+use Rattle.numbers.specs.Layout.{dcSize, objectSize, slotSize, recordSize, panelLenPlace, storeLenPlace, widthPlace, heightPlace, countPlace, screenPlace, slotPlace, handlePlace, kindPlace, objectPlace, bitmapHeightIn, bitmapDirtyIn, colorIn, penWidthIn, fontHeightIn}
 use Rattle.numbers.specs.Block.{bitmapFields, at, dcOf, objectOf}
 use Rattle.numbers.specs.View.{view, isRecord}
 use Rattle.numbers.proofs.Record.{parts}
 use Rattle.numbers.proofs.View.{slot-seen}
+
+-- in a slot: a bitmap's height and dirty mark
+abbrev pub bitmapHeightPlace : ℕ
+bitmapHeightPlace = objectPlace + bitmapHeightIn
+
+abbrev pub bitmapDirtyPlace : ℕ
+bitmapDirtyPlace = objectPlace + bitmapDirtyIn
 
 -- numbers of a part
 pub part-at : (l : List ℕ) (p n k : ℕ) → k < n → at (part l p n) k ≡ at l (p + k)

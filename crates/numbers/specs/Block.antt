@@ -38,21 +38,9 @@ bit f = cond f 1 0
 abbrev pub surfaceOf : ℕ → DcSurface
 surfaceOf n = cond (flagOf n) Memory Screen
 
-abbrev pub surfaceNumber : DcSurface → ℕ
-surfaceNumber Screen = 0
-surfaceNumber Memory = 1
-
 -- whether a bitmap is selected, and its handle, 0 if none is
 abbrev pub bitmapOf : (present h : ℕ) → SelectedBitmap
 bitmapOf present h = cond (flagOf present) (Chosen h) Unset
-
-abbrev pub presentNumber : SelectedBitmap → ℕ
-presentNumber Unset = 0
-presentNumber (Chosen h) = 1
-
-abbrev pub bitmapNumber : SelectedBitmap → ℕ
-bitmapNumber Unset = 0
-bitmapNumber (Chosen h) = h
 
 -- The numbers of a DC: surface, bitmap present, bitmap, brush, pen, font, brush colour, pen colour, text colour, alignment,
 -- background colour, transparent.
@@ -99,15 +87,7 @@ slotOf l = record { handle = at l handlePlace; object = objectOf (at l kindPlace
 abbrev pub isSlot : List ℕ → Bool
 isSlot l = isObject (at l kindPlace) (part l objectPlace objectSize)
 
--- Numbers that are a DC, an object of the kind, a slot; and which one.
-pub record DcCoded (d : Dc) (l : List ℕ) : Type 0 where
-  pub is-dc : isDc l ≡ true
-  pub same : dcOf l ≡ d
-
+-- Numbers that are an object of the kind, and which one.
 pub record ObjectCoded (o : GdiObject) (kind : ℕ) (l : List ℕ) : Type 0 where
   pub is-object : isObject kind l ≡ true
   pub same : objectOf kind l ≡ o
-
-pub record SlotCoded (s : Slot) (l : List ℕ) : Type 0 where
-  pub is-slot : isSlot l ≡ true
-  pub same : slotOf l ≡ s

@@ -136,10 +136,3 @@ penSize = 2
 
 abbrev pub fontSize : ℕ
 fontSize = 1
-
--- in a slot: a bitmap's height and dirty mark
-abbrev pub bitmapHeightPlace : ℕ
-bitmapHeightPlace = objectPlace + bitmapHeightIn
-
-abbrev pub bitmapDirtyPlace : ℕ
-bitmapDirtyPlace = objectPlace + bitmapDirtyIn

@@ -13,9 +13,9 @@ use Rattle.words.proofs.Parts.{length-part, length-with, with-before, with-with
 use Rattle.gdi.specs.declared.Dc.{Dc}
 use Rattle.gdi.specs.Record.{noSlot, vacantSlot, screenDc, fresh}
 use Rattle.numbers.specs.Layout.{dcSize, slotSize, headSize, recordSize, panelLenPlace, storeLenPlace, widthPlace, heightPlace, framesLowPlace, framesHighPlace, nextHandlePlace, stockDirtyPlace, countPlace, screenPlace, slotsPlace, slotPlace}
-use Rattle.numbers.specs.Block.{at, isFlag, isDc, slotOf, isSlot, DcCoded}
+use Rattle.numbers.specs.Block.{at, isFlag, isDc, slotOf, isSlot}
 use Rattle.numbers.specs.View.{slotIn, tableOf, view, isRecord, Stored}
-use Rattle.numbers.proofs.Block.{lentBack, lent-back}
+use Rattle.numbers.proofs.Block.{DcCoded, lentBack, lent-back}
 use Rattle.numbers.proofs.View.{length-table, table-slot}
 use Rattle.plan.specs.Vacant.{Vacant}
 use Rattle.plan.proofs.Vacant.{stays-vacant}

@@ -18,8 +18,8 @@ use Rattle.clip.proofs.Clip.{no-extent-covered}
 use Rattle.surface.specs.Region.{wordsOf, box}
 use Rattle.surface.proofs.Rows.{column-lt, row-lt}
 use Rattle.outline.specs.declared.Edges.{Edges}
-use Rattle.outline.specs.Edges.{edgesOf, sides, Ordered}
 use Rattle.outline.specs.Outline.{rim, outlined}
+use Rattle.outline.specs.Inner.{edgesOf, sides, Ordered}
 use Rattle.outline.proofs.Rim.{sides-rim, edges-ordered}
 
 module _ (width height : ℕ) (x y w h : ℤ) (color : ℕ) (m : List ℕ) where

@@ -8,15 +8,16 @@ use lib.IntN.{ℤ, pos, _+ℤ_, _-ℤ_}
 use lib.Signed.{leZ, ltZ}
 use borrow.Author.Tests.{le-leb, lt-leb, lt-ltb, le-ltb}
 use Rattle.laws.specs.Interval.{between}
-use Rattle.laws.specs.Integer.{positive, negative}
+use Rattle.laws.specs.Integer.{positive}
+use Rattle.laws.specs.Inner.{negative}
 use Rattle.laws.proofs.Interval.{Lies, inside, before, behind, where-is, between-yes, between-no}
 use Rattle.laws.proofs.Integer.{sum, difference, one-part, le-parts, lt-parts}
 use Rattle.laws.proofs.Test.{same-order}
 use Rattle.clip.specs.Clip.{nearest, covers}
 use Rattle.clip.proofs.Clip.{covers-parts, nearest-parts, nearest-le, nearest-lt}
 use Rattle.outline.specs.declared.Edges.{Edges}
-use Rattle.outline.specs.Edges.{edgesOf, sides, Ordered}
 use Rattle.outline.specs.Outline.{rim}
+use Rattle.outline.specs.Inner.{edgesOf, sides, Ordered}
 
 -- p .. p + n is its first number, its last one, and what lies between
 ends : (p n u : ℕ) → 1 ≤ n → (between p (p + 1) u || between (p + n - 1) (p + n) u) ≡ (between p (p + n) u && not (leb (suc p) u && ltb (suc u) (p + n)))

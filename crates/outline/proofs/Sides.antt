@@ -6,9 +6,10 @@ use Prim.Native.Nat.{ℕ, _+_, _-_, _≤_}
 use native.Mathlib.Omega.{arith}
 use Rattle.words.specs.Words.{painted}
 use Rattle.words.proofs.Painted.{painted-again}
-use Rattle.surface.specs.Region.{wordsOf, rect}
+use Rattle.surface.specs.Region.{wordsOf}
+use Rattle.surface.proofs.Rows.{rect}
 use Rattle.outline.specs.declared.Edges.{Edges}
-use Rattle.outline.specs.Edges.{sides}
+use Rattle.outline.specs.Inner.{sides}
 
 module _ (W v : ℕ) (cols rows : Edges) (m : List ℕ) where
   abbrev fill : (x0 x1 y0 y1 : ℕ) → List ℕ → List ℕ

@@ -1,2 +1,2 @@
 pub mod Outline
-pub mod Edges
+pub mod Inner

@@ -3,10 +3,12 @@ ghost use mathlib.Core.Path.{_≡_};
 ghost use Prim.Native.Nat.{_+_, _*_, _≤_, _<_};
 ghost use lib.ListN.{length};
 ghost use Rattle.words.specs.Words.{painted};
-ghost use Rattle.surface.specs.Region.{wordsOf, rect};
-ghost use Rattle.surface.specs.Refusal.{refusal, InOrder, drew, unlessRefused};
+ghost use Rattle.surface.specs.Region.{wordsOf};
+ghost use Rattle.surface.specs.Refusal.{refusal, drew, unlessRefused};
+ghost use Rattle.surface.proofs.Rows.{rect};
+ghost use Rattle.surface.proofs.Accepted.{InOrder};
 ghost use Rattle.outline.specs.Outline.{outlined, outlineMarks};
-ghost use Rattle.outline.specs.Edges.{edgesOf, sides, Ordered};
+ghost use Rattle.outline.specs.Inner.{edgesOf, sides, Ordered};
 
 // The first coordinate of a stretch is from .. second, the last one last .. to, as far as they lie on a side.
 pub struct Edges {

@@ -9,7 +9,7 @@ use lib.Dec.{ltb}
 use lib.ListN.{length, set, length-append}
 use borrow.Author.Tests.{ltb-false, lt-ltb, le-ltb}
 use Rattle.p6.specs.P6.{digits, decimal, header}
-use Rattle.p6.specs.Put.{put}
+use Rattle.p6.specs.Inner.{put}
 use Rattle.p6.proofs.Put.{stored, stored-behind, put-behind}
 
 -- as many digits as there are

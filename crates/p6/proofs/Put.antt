@@ -7,7 +7,8 @@ use native.Mathlib.Numerals.{add-one}
 use native.Mathlib.Omega.{arith}
 use lib.ListN.{length, take, drop, take-append-drop, length-take, length-drop, length-append, drop-of-length-le}
 use lib.Seq.{paste, sets, take-length, sets-eq, take-at, drop-at, drop-drop, length-take-le}
-use Rattle.p6.specs.Put.{put, joined}
+use Rattle.p6.specs.Joined.{joined}
+use Rattle.p6.specs.Inner.{put}
 
 -- all of a memory is put
 pub put-all : (m xs : List ℕ) → length m ≡ length xs → put m 0 xs ≡ xs

@@ -1,2 +1,3 @@
 pub mod P6
-pub mod Put
+pub mod Joined
+pub mod Inner

@@ -3,7 +3,7 @@ ghost use mathlib.Core.Path.{_≡_};
 ghost use Prim.Native.Nat.{_+_, _≤_};
 ghost use lib.ListN.{length};
 ghost use Rattle.p6.specs.P6.{decimal, header, ppmLength};
-ghost use Rattle.p6.specs.Put.{put};
+ghost use Rattle.p6.specs.Inner.{put};
 
 // How long the picture of a surface is.
 pub fn ppm_len(width: u32, height: u32) -> usize

@@ -4,7 +4,7 @@ use mathlib.Core.Path.{_≡_, sym, subst}
 use Prim.Native.Nat.{ℕ}
 use lib.ListN.{length}
 use Rattle.gdi.specs.declared.GdiState.{GdiState}
-use Rattle.ready.specs.Ready.{Ready}
+use Rattle.ready.proofs.Ready.{Ready}
 use Rattle.place.specs.declared.SurfaceId.{SurfaceId}
 use Rattle.place.specs.declared.Place.{Place}
 use Rattle.place.specs.Place.{whereIs, Within}

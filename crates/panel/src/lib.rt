@@ -6,7 +6,7 @@ ghost use lib.ListN.{length};
 ghost use Rattle.plan.specs.Panel.{panelFill, resize};
 ghost use Rattle.gdi.specs.Updates.{withSides};
 ghost use Rattle.numbers.specs.View.{view, isRecord, Stored};
-ghost use Rattle.ready.specs.Ready.{Lent};
+ghost use Rattle.ready.proofs.Ready.{Lent};
 ghost use Rattle.paint.specs.Memories.{memories};
 ghost use mathlib.Core.List.{List};
 ghost use Prim.Native.Nat.{ℕ};

@@ -7,8 +7,8 @@ use lib.Dec.{eqb}
 use lib.ListN.{length}
 use borrow.Author.Tests.{ne-eqb}
 use Rattle.numbers.specs.View.{view, isRecord}
-use Rattle.ready.specs.Ready.{commonRefusal, commonRefusalOn, Lent}
-use Rattle.ready.proofs.Ready.{looks, lent}
+use Rattle.ready.specs.Ready.{commonRefusal, commonRefusalOn}
+use Rattle.ready.proofs.Ready.{Lent, looks, lent}
 use Rattle.paint.specs.Memories.{Memories}
 use Rattle.plan.specs.declared.Call.{Call}
 use Rattle.plan.specs.Answer.{Parts, refused}

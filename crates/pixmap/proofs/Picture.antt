@@ -12,7 +12,7 @@ use borrow.Author.Tests.{leb-true, eqb-true, ne-eqb}
 use Rattle.laws.proofs.Test.{both, not-left, not-right}
 use Rattle.bigendian.specs.BigEndian.{be16}
 use Rattle.p6.specs.P6.{ppmLength}
-use Rattle.p6.specs.Put.{put}
+use Rattle.p6.specs.Inner.{put}
 use Rattle.samples.specs.Samples.{ppmOf}
 use Rattle.samples.proofs.Pixels.{length-ppm}
 use Rattle.p6.proofs.Decimal.{length-header, three-digits}

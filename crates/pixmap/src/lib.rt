@@ -4,7 +4,7 @@ ghost use mathlib.Core.Bool.{true};
 ghost use Prim.Native.Nat.{_≤_};
 ghost use lib.ListN.{length};
 ghost use Rattle.pixmap.specs.Pixmap.{served, isPicture, pictureOf};
-ghost use Rattle.p6.specs.Put.{put};
+ghost use Rattle.p6.specs.Inner.{put};
 
 // The longest side that is served.
 const LONGEST_SIDE: u16 = 144;

@@ -10,10 +10,10 @@ use Rattle.gdi.specs.declared.GdiObject.{GdiObject}
 use Rattle.gdi.specs.Record.{bytesOf}
 use Rattle.gdi.specs.Lookup.{handleAt, scan, findOf}
 use Rattle.gdi.proofs.Scan.{hit as scan-hit, miss as scan-miss, end as scan-end, start as scan-first}
-use Rattle.numbers.specs.Layout.{objectSize, widthPlace, heightPlace, countPlace, slotPlace, kindPlace, objectPlace, bitmapHeightPlace}
+use Rattle.numbers.specs.Layout.{objectSize, widthPlace, heightPlace, countPlace, slotPlace, kindPlace, objectPlace}
 use Rattle.numbers.specs.Block.{at}
 use Rattle.numbers.specs.View.{view, isRecord}
-use Rattle.numbers.proofs.Seen.{part-first, part-second, object-bitmap, by-kind, count-seen, handle-seen, object-seen}
+use Rattle.numbers.proofs.Seen.{bitmapHeightPlace, part-first, part-second, object-bitmap, by-kind, count-seen, handle-seen, object-seen}
 use Rattle.sound.specs.Sound.{objectFits, startOf, isSound}
 use Rattle.sound.proofs.Bytes.{start-none, start-more}
 use Rattle.sound.proofs.Sound.{parts, room}
@@ -25,7 +25,8 @@ use Rattle.place.specs.declared.Place.the-variants.{Nowhere, At}
 use Rattle.place.specs.declared.Site.{Site}
 use Rattle.place.specs.declared.SurfaceId.{SurfaceId}
 use Rattle.place.specs.declared.SurfaceId.the-variants.{Panel}
-use Rattle.place.specs.Place.{live, frameOf, locate, Located, Placed}
+use Rattle.place.specs.Place.{live, frameOf, locate}
+use Rattle.place.specs.Inner.{Located, Placed}
 use Rattle.place.proofs.Places.{locatedFrom, start as at-start, miss, end, site, located, placed-panel}
 
 module _ (l : List ℕ) (p start : ℕ) where

@@ -26,7 +26,8 @@ use Rattle.place.specs.declared.Place.the-variants.{Nowhere, At}
 use Rattle.place.specs.declared.Site.{Site}
 use Rattle.place.specs.declared.SurfaceId.{SurfaceId}
 use Rattle.place.specs.declared.SurfaceId.the-variants.{Panel, Bitmap}
-use Rattle.place.specs.Place.{slotsFrom, live, frameOf, locate, lengthOf, Inside, Within, Located, Placed}
+use Rattle.place.specs.Place.{slotsFrom, live, frameOf, locate, lengthOf, Inside, Within}
+use Rattle.place.specs.Inner.{Located, Placed}
 
 -- what is located among the slots from i on, if their pixels lie from byte p on
 abbrev pub locatedFrom : GdiState → (h i p : ℕ) → Place

@@ -21,7 +21,8 @@ use Rattle.place.specs.declared.SurfaceId.{SurfaceId}
 use Rattle.place.specs.declared.SurfaceId.the-variants.{Panel, Bitmap}
 use Rattle.place.specs.declared.Target.{Target}
 use Rattle.place.specs.declared.Target.the-variants.{NoDc, NoSurface, On}
-use Rattle.place.specs.Place.{whereIs, siteOf, Placed, unlessNowhere, onSelected, targetFound, targetOf}
+use Rattle.place.specs.Place.{whereIs, siteOf, unlessNowhere, onSelected, targetFound, targetOf}
+use Rattle.place.specs.Inner.{Placed}
 use Rattle.place.proofs.Apart.{places}
 
 module _ (b : GdiState) (dc : ℕ) {q : DcFound} (e : q ≡ dcOf b dc) where

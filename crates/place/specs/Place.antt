@@ -1,7 +1,6 @@
 -- Surfaces: where their pixels lie, and which one a DC paints.
 use mathlib.Core.Bool.{Bool, true, false, cond}
 use mathlib.Core.List.{List, [], _∷_}
-use mathlib.Core.Path.{_≡_}
 use Prim.Native.Nat.{ℕ, zero, suc, _+_, _≤_, _<_}
 use lib.Dec.{eqb}
 use lib.ListN.{getD}
@@ -89,16 +88,6 @@ lengthOf n k Store = k
 abbrev pub Within : (panel-len store-len : ℕ) → Place → Type 0
 Within n k Nowhere = Unit
 Within n k (At m p w h) = Inside (lengthOf n k m) p w h
-
--- a created bitmap was located, inside its memory
-pub record Located (b : GdiState) (h : ℕ) (r : Site) : Type 0 where
-  pub same : r ≡ record { at = locate (live b) 2 h; slot = findOf b h }
-  pub within : Within (b .«panel_len») (b .«store_len») (r .at)
-
--- a surface's site was found, inside its memory
-pub record Placed (b : GdiState) (s : SurfaceId) (r : Site) : Type 0 where
-  pub same : r ≡ siteOf b s
-  pub within : Within (b .«panel_len») (b .«store_len») (r .at)
 
 -- a target, unless its surface is nowhere
 abbrev pub unlessNowhere : Place → Target → Target

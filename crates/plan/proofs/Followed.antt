@@ -12,9 +12,14 @@ use Rattle.paint.specs.Memories.{Memories}
 use Rattle.paint.specs.Paint.{after}
 use Rattle.plan.specs.Answer.{Parts, refused}
 use Rattle.plan.specs.Plan.{Outcome, Plan, told, refuse}
-use Rattle.plan.specs.Stroke.{Stroke, drawnBy, Stroked}
-use Rattle.plan.specs.Followed.{Followed, StrokedOn}
-use Rattle.plan.proofs.Strokes.{dirtied-by-count, stroked-then}
+use Rattle.plan.specs.Stroke.{Stroke, dirtiedBy, paintsOf, drawnBy}
+use Rattle.plan.specs.Followed.{Followed}
+use Rattle.plan.proofs.Strokes.{Stroked, dirtied-by-count, stroked-then}
+
+-- Strokes were made on a record lent as numbers.
+pub record StrokedOn (l : List ℕ) (ss : List Stroke) (ms : Memories) (l′ : List ℕ) (ms′ : Memories) : Type 0 where
+  pub numbers : Stored l (dirtiedBy (view l) ss) l′
+  pub memories : ms′ ≡ after (view l) (paintsOf ss) ms
 
 -- stored twice, with as many objects
 pub stored-twice : {l l₁ l′ : List ℕ} {b₁ b : GdiState} → b .count ≡ b₁ .count → Stored l b₁ l₁ → Stored l₁ b l′ → Stored l b l′

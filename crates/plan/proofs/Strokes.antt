@@ -3,17 +3,23 @@ use mathlib.Core.List.{List, [], _∷_, _++_}
 use mathlib.Core.Path.{_≡_, refl, sym, _∙_, ap, ap₂}
 use Prim.Native.Nat.{ℕ}
 use Rattle.gdi.specs.declared.GdiState.{GdiState}
-use Rattle.ready.specs.Ready.{Ready}
+use Rattle.ready.proofs.Ready.{Ready}
 use Rattle.place.specs.declared.Place.{Place}
 use Rattle.place.specs.declared.Site.{Site}
 use Rattle.place.specs.declared.SurfaceId.{SurfaceId}
-use Rattle.place.specs.Place.{slotFor, Placed}
+use Rattle.place.specs.Place.{slotFor}
+use Rattle.place.specs.Inner.{Placed}
 use Rattle.place.proofs.Same.{SamePlaces, Still, still-same, still-then}
 use Rattle.dirty.specs.Dirty.{dirtiedIf}
 use Rattle.dirty.proofs.Still.{dirtied-if-still, dirtied-if-slot, dirtied-if-count}
 use Rattle.paint.specs.Memories.{Memories, widthOf, over, colourAt}
 use Rattle.paint.specs.Paint.{Source, black, taken, Draw, draw, operand, drawn, paintedBy, after}
-use Rattle.plan.specs.Stroke.{Stroke, dirtiedBy, paintsOf, Stroked}
+use Rattle.plan.specs.Stroke.{Stroke, dirtiedBy, paintsOf}
+
+-- Strokes were made: the record after has their dirty marks, and the memories after have their drawings.
+pub record Stroked (b : GdiState) (ss : List Stroke) (ms : Memories) (b′ : GdiState) (ms′ : Memories) : Type 0 where
+  pub state : b′ ≡ dirtiedBy b ss
+  pub memories : ms′ ≡ after b (paintsOf ss) ms
 
 -- the record after their dirty marks: one list after another, every surface in its place, every record in its slot, as many objects
 dirtied-by-append : (ss ts : List Stroke) (b : GdiState) → dirtiedBy b (ss ++ ts) ≡ dirtiedBy (dirtiedBy b ss) ts

@@ -9,7 +9,6 @@ use Rattle.paint.specs.Paint.{after}
 use Rattle.plan.specs.declared.Call.{Call}
 use Rattle.plan.specs.Answer.{Parts}
 use Rattle.plan.specs.Plan.{Plan}
-use Rattle.plan.specs.Stroke.{Stroke, dirtiedBy, paintsOf}
 use Rattle.plan.specs.Calls.{planOn}
 
 -- A plan was followed: the answer's number and values are the plan's; accepted, the numbers are the plan's record; the memories
@@ -23,8 +22,3 @@ pub record Followed (p : Plan) (l : List ℕ) (ms : Memories) (a : Parts) (l′ 
 -- A call was performed: its plan was followed.
 abbrev pub Performed : Call → (units l : List ℕ) → Memories → Parts → (l′ : List ℕ) → Memories → Type 0
 Performed c us l ms a l′ ms′ = Followed (planOn c us l (length (ms .panel)) (length (ms .store))) l ms a l′ ms′
-
--- Strokes were made on a record lent as numbers.
-pub record StrokedOn (l : List ℕ) (ss : List Stroke) (ms : Memories) (l′ : List ℕ) (ms′ : Memories) : Type 0 where
-  pub numbers : Stored l (dirtiedBy (view l) ss) l′
-  pub memories : ms′ ≡ after (view l) (paintsOf ss) ms

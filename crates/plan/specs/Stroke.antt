@@ -1,11 +1,9 @@
 -- Strokes: the drawings of a call, each with whether its dirty mark is due; and the plan that they make.
 use mathlib.Core.Bool.{Bool}
 use mathlib.Core.List.{List, [], _∷_}
-use mathlib.Core.Path.{_≡_}
 use Rattle.gdi.specs.declared.GdiState.{GdiState}
 use Rattle.dirty.specs.Dirty.{dirtiedIf}
-use Rattle.paint.specs.Memories.{Memories}
-use Rattle.paint.specs.Paint.{Draw, Paint, draw, after}
+use Rattle.paint.specs.Paint.{Draw, Paint, draw}
 use Rattle.plan.specs.Answer.{Parts}
 use Rattle.plan.specs.Plan.{Plan}
 
@@ -28,8 +26,3 @@ paintsOf (s ∷ ss) = draw (s .drawing) ∷ paintsOf ss
 -- else.
 abbrev pub drawnBy : GdiState → List Stroke → Parts → Plan
 drawnBy b ss a = record { outcome = record { state = dirtiedBy b ss; answer = a }; paint = paintsOf ss }
-
--- Strokes were made: the record after has their dirty marks, and the memories after have their drawings.
-pub record Stroked (b : GdiState) (ss : List Stroke) (ms : Memories) (b′ : GdiState) (ms′ : Memories) : Type 0 where
-  pub state : b′ ≡ dirtiedBy b ss
-  pub memories : ms′ ≡ after b (paintsOf ss) ms

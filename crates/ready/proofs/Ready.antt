@@ -10,7 +10,18 @@ use Rattle.laws.proofs.Test.{both}
 use Rattle.gdi.specs.declared.GdiState.{GdiState}
 use Rattle.sound.specs.Sound.{isSound}
 use Rattle.numbers.specs.View.{view, isRecord}
-use Rattle.ready.specs.Ready.{commonRefusal, Ready, commonRefusalOn, Lent}
+use Rattle.ready.specs.Ready.{commonRefusal, commonRefusalOn}
+
+-- Calls are looked at: a sound record, lent with memories of its lengths.
+pub record Ready (b : GdiState) (panel-len store-len : ℕ) : Type 0 where
+  pub sound : isSound b ≡ true
+  pub panel : panel-len ≡ b .«panel_len»
+  pub store : store-len ≡ b .«store_len»
+
+-- What every call under these refusals counts on: numbers that are a record, and calls on it are looked at.
+pub record Lent (l : List ℕ) (panel-len store-len : ℕ) : Type 0 where
+  pub is-record : isRecord l ≡ true
+  pub ready : Ready (view l) panel-len store-len
 
 -- the cases
 module _ (b : GdiState) (n k : ℕ) where

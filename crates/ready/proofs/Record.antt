@@ -10,7 +10,7 @@ use Rattle.gdi.specs.Record.{size}
 use Rattle.numbers.specs.Layout.{panelLenPlace, storeLenPlace, widthPlace, heightPlace, countPlace}
 use Rattle.numbers.specs.Block.{at}
 use Rattle.numbers.specs.View.{view, isRecord}
-use Rattle.well_formed.specs.Head.{isHead, areSlots}
+use Rattle.well_formed.specs.Inner.{isHead, areSlots}
 use Rattle.well_formed.proofs.Tested.{head-and-slots}
 use Rattle.sound.specs.Sound.{limit, slotsFit, distinct, used, isSound}
 use Rattle.sound.proofs.Sound.{Sound, sound-if-room, unsound}

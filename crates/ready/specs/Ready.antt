@@ -1,7 +1,6 @@
 -- The refusals that every call after open shares.
-use mathlib.Core.Bool.{true, cond, _&&_}
+use mathlib.Core.Bool.{cond, _&&_}
 use mathlib.Core.List.{List}
-use mathlib.Core.Path.{_≡_}
 use Prim.Native.Nat.{ℕ}
 use lib.Dec.{eqb}
 use Rattle.gdi.specs.declared.GdiState.{GdiState}
@@ -12,12 +11,6 @@ use Rattle.sound.specs.Sound.{isSound}
 unfoldable pub commonRefusal : GdiState → (panel-len store-len : ℕ) → ℕ
 commonRefusal b n k = cond (isSound b) (cond (eqb n (b .«panel_len») && eqb k (b .«store_len»)) 0 8) 9
 
--- Calls are looked at: a sound record, lent with memories of its lengths.
-pub record Ready (b : GdiState) (panel-len store-len : ℕ) : Type 0 where
-  pub sound : isSound b ≡ true
-  pub panel : panel-len ≡ b .«panel_len»
-  pub store : store-len ≡ b .«store_len»
-
 -- the same of a record lent as numbers: numbers that are no record are 9
 abbrev pub commonRefusalOn : (l : List ℕ) → (panel-len store-len : ℕ) → ℕ
 commonRefusalOn l n k = cond (isRecord l) (commonRefusal (view l) n k) 9
@@ -25,8 +18,3 @@ commonRefusalOn l n k = cond (isRecord l) (commonRefusal (view l) n k) 9
 -- the same where only the panel memory is lent: the store's length is the record's own
 abbrev pub panelRefusalOn : (l : List ℕ) → (panel-len : ℕ) → ℕ
 panelRefusalOn l n = commonRefusalOn l n (view l .«store_len»)
-
--- What every call under these refusals counts on: numbers that are a record, and calls on it are looked at.
-pub record Lent (l : List ℕ) (panel-len store-len : ℕ) : Type 0 where
-  pub is-record : isRecord l ≡ true
-  pub ready : Ready (view l) panel-len store-len

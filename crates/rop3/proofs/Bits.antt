@@ -6,7 +6,8 @@ use lib.Bits.{bitAnd, bitXor, and-step, xor-step, differ as xorBit}
 use lib.Dec.{eqb}
 use borrow.Author.Tests.{eqb-true}
 use Rattle.laws.proofs.Test.{each}
-use Rattle.rop3.specs.Rop3.{bit, fromBits, pick}
+use Rattle.rop3.specs.Rop3.{bit, fromBits}
+use Rattle.rop3.specs.Inner.{pick}
 
 -- a bit is 0 or 1
 pub data Digit : ℕ → Type 0 where

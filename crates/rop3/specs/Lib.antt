@@ -1,1 +1,2 @@
 pub mod Rop3
+pub mod Inner

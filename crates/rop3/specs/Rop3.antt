@@ -41,8 +41,3 @@ usesSrc t = uses (λ p d s. result t p s d)
 -- some P and S give different results for D = 0 and 1
 abbrev pub usesDst : ℕ → Bool
 usesDst t = uses (λ p s d. result t p s d)
-
--- a multiplexer of bits: a where c is 1, and b where it is 0
-abbrev pub pick : ℕ → ℕ → ℕ → ℕ
-pick zero a b = b
-pick (suc c) a b = a

@@ -2,7 +2,8 @@
 // the table byte of a code has an effect, so all 256 tables are served.
 ghost use mathlib.Core.Path.{_≡_};
 ghost use Prim.Native.Nat.{ℕ, _+_, _*_, _<_};
-ghost use Rattle.rop3.specs.Rop3.{bit, pick, tableOf, applied, usesSrc, usesDst};
+ghost use Rattle.rop3.specs.Rop3.{bit, tableOf, applied, usesSrc, usesDst};
+ghost use Rattle.rop3.specs.Inner.{pick};
 
 pub const BLACKNESS: u32 = 0x0000_0042;
 

@@ -8,9 +8,9 @@ use Rattle.words.specs.Words.{word}
 use Rattle.color.specs.Color.{red, green, blue, wideRed, wideGreen, wideBlue, widened}
 use Rattle.color.proofs.Color.{red-widened, green-widened, blue-widened}
 use Rattle.p6.specs.P6.{ppmLength}
-use Rattle.p6.specs.Put.{put}
 use Rattle.samples.specs.Samples.{rgb, rgba, samplesOf, rgbaOf, ppmOf}
 use Rattle.p6.specs.P6.{header, picture, read}
+use Rattle.p6.specs.Inner.{put}
 use Rattle.p6.proofs.P6.{read-back}
 use Rattle.p6.proofs.Put.{stored, stored-behind, length-joined}
 

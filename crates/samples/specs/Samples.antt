@@ -4,7 +4,7 @@ use Prim.Native.Nat.{ℕ, _*_}
 use Rattle.words.specs.Words.{word}
 use Rattle.color.specs.Color.{wideRed, wideGreen, wideBlue}
 use Rattle.p6.specs.P6.{p6}
-use Rattle.p6.specs.Put.{joined}
+use Rattle.p6.specs.Joined.{joined}
 
 -- R, G and B of a word, widened
 abbrev pub rgb : ℕ → List ℕ

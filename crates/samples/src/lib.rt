@@ -4,7 +4,7 @@ ghost use mathlib.Core.Path.{_≡_};
 ghost use Prim.Native.Nat.{_+_, _*_, _≤_, _<_};
 ghost use lib.ListN.{length};
 ghost use Rattle.p6.specs.P6.{ppmLength};
-ghost use Rattle.p6.specs.Put.{put};
+ghost use Rattle.p6.specs.Inner.{put};
 ghost use Rattle.samples.specs.Samples.{rgb, rgba, samplesOf, rgbaOf, ppmOf, rgbaLength};
 
 // How long the RGBA bytes of a surface are.

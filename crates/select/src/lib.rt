@@ -2,7 +2,7 @@
 ghost use mathlib.Core.Path.{_≡_};
 ghost use Rattle.numbers.specs.View.{view};
 ghost use Rattle.plan.specs.Select.{selectIn, selectedOf, selectInto};
-ghost use Rattle.ready.specs.Ready.{Lent};
+ghost use Rattle.ready.proofs.Ready.{Lent};
 ghost use Rattle.paint.specs.Memories.{Memories};
 ghost use Rattle.plan.specs.Answer.{partsOf};
 ghost use Rattle.plan.specs.Followed.{Followed};

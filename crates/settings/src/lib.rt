@@ -1,7 +1,7 @@
 // Settings, each one field of one DC, on a record lent as numbers.
 ghost use Rattle.numbers.specs.View.{view};
 ghost use Rattle.plan.specs.Settings.{setTextColor, setTextAlign, setBkColor, setBkMode};
-ghost use Rattle.ready.specs.Ready.{Lent};
+ghost use Rattle.ready.proofs.Ready.{Lent};
 ghost use Rattle.paint.specs.Memories.{Memories};
 ghost use Rattle.plan.specs.Answer.{partsOf};
 ghost use Rattle.plan.specs.Followed.{Followed};

@@ -10,9 +10,9 @@ use Rattle.surface.specs.Refusal.{side}
 use Rattle.gdi.specs.declared.DcSurface.the-variants.{Screen, Memory}
 use Rattle.gdi.specs.declared.GdiObject.{GdiObject}
 use Rattle.gdi.specs.Record.{bytesOf}
-use Rattle.numbers.specs.Layout.{objectSize, kindPlace, objectPlace, bitmapHeightPlace}
+use Rattle.numbers.specs.Layout.{objectSize, kindPlace, objectPlace}
 use Rattle.numbers.specs.Block.{at, dcOf, objectOf}
-use Rattle.numbers.proofs.Seen.{part-first, part-second, object-dc, object-bitmap, by-kind}
+use Rattle.numbers.proofs.Seen.{bitmapHeightPlace, part-first, part-second, object-dc, object-bitmap, by-kind}
 use Rattle.sound.specs.Sound.{isMemory, objectFits}
 use Rattle.sound.proofs.Bytes.{area}
 

@@ -18,10 +18,10 @@ use Rattle.numbers.specs.Block.{at, isSlot}
 use Rattle.numbers.specs.View.{view, isRecord}
 use Rattle.numbers.proofs.Seen.{count-seen, record-length, record-count, handle-read, object-read, object-seen}
 use Rattle.numbers.proofs.Slots.{lentSlot, lent-slot}
-use Rattle.well_formed.specs.Head.{areSlots}
+use Rattle.well_formed.specs.Inner.{areSlots}
 use Rattle.sound.specs.Sound.{objectFits, slotFits, slotsFit, startOf, used}
-use Rattle.sound.specs.Scan.{endOf, Scanned}
 use Rattle.sound.specs.declared.Scan.{Scan}
+use Rattle.sound.specs.Inner.{endOf, Scanned}
 use Rattle.sound.proofs.Bytes.{bytes-le, fits-below, start-none, start-more}
 use Rattle.sound.proofs.Handles.{AscendTo, none-ascend, ascend-more}
 use Rattle.sound.proofs.Objects.{objectFrom}

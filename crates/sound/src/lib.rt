@@ -11,7 +11,7 @@ ghost use Rattle.numbers.specs.Layout.{objectSize, slotSize, recordSize, countP
 ghost use Rattle.numbers.specs.Block.{at, objectOf};
 ghost use Rattle.numbers.specs.View.{view, isRecord};
 ghost use Rattle.sound.specs.Sound.{objectFits, slotsFit, startOf};
-ghost use Rattle.sound.specs.Scan.{Scanned};
+ghost use Rattle.sound.specs.Inner.{Scanned};
 use gdi::GDI_HANDLE_BASE;
 use gdi::GdiObject;
 use gdi::STOCK_WHITE_BRUSH;

@@ -1,12 +1,20 @@
 -- What an operation that is not refused may count on. Assumes nothing.
 use mathlib.Core.Path.{_≡_, refl}
 use mathlib.Core.Bool.{Bool, true, false, _&&_, cond}
-use Prim.Native.Nat.{ℕ, _*_, _≤_}
+use Prim.Native.Nat.{ℕ, _*_, _≤_, _<_}
 use native.Mathlib.Omega.{arith}
 use lib.Dec.{leb, eqb}
 use borrow.Author.Tests.{leb-true, eqb-true, eq-eqb, ne-eqb}
 use Rattle.laws.proofs.Test.{both}
-use Rattle.surface.specs.Refusal.{side, sourceSide, refusalFor, refusal, refusalFrom, InOrder}
+use Rattle.surface.specs.Refusal.{side, sourceSide, refusalFor, refusal, refusalFrom}
+
+-- A surface in order: sides in their limits, and bytes, of which there are len, as many as they say.
+pub record InOrder (width height len : ℕ) : Type 0 where
+  pub some : 0 < width
+  pub wide : width ≤ 4096
+  pub some-rows : 0 < height
+  pub high : height ≤ 4096
+  pub long : len ≡ 2 * (width * height)
 
 pub side-range : (n : ℕ) → side n ≡ true → (1 ≤ n) × (n ≤ 4096)
 side-range n e = let p = both (leb 1 n) (leb n 4096) e in (leb-true 1 n (p .0), leb-true n 4096 (p .1))

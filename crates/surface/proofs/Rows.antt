@@ -8,7 +8,11 @@ use native.Mathlib.Omega.{arith}
 use Rattle.laws.specs.Interval.{between}
 use Rattle.laws.proofs.Interval.{between-yes, between-no, between-cong, bounds}
 use Rattle.laws.proofs.Test.{and-false}
-use Rattle.surface.specs.Region.{wordsOf, rect}
+use Rattle.surface.specs.Region.{wordsOf}
+
+-- columns x0 .. x1 and rows y0 .. y1
+abbrev pub rect : (x0 x1 y0 y1 : ℕ) → (c r : ℕ) → Bool
+rect x0 x1 y0 y1 c r = between x0 x1 c && between y0 y1 r
 
 -- where a word of the surface is
 module _ (W H i : ℕ) (some : 0 < W) where

@@ -1,8 +1,7 @@
 -- Refusals of the operations on lent bytes, and their answers.
 use mathlib.Core.Bool.{Bool, _&&_, cond}
 use mathlib.Core.List.{List}
-use mathlib.Core.Path.{_≡_}
-use Prim.Native.Nat.{ℕ, _*_, _≤_, _<_}
+use Prim.Native.Nat.{ℕ, _*_}
 use lib.Dec.{leb, eqb}
 use Rattle.surface.specs.declared.Drawn.{Drawn}
 use Rattle.surface.specs.declared.Advance.{Advance}
@@ -25,14 +24,6 @@ refusal width height len = refusalFor (side width && side height) width height l
 -- the same with a source
 abbrev pub refusalFrom : (width height src-w src-h len : ℕ) → ℕ
 refusalFrom width height src-w src-h len = refusalFor ((side width && side height) && (sourceSide src-w && sourceSide src-h)) width height len
-
--- A surface in order: sides in their limits, and bytes, of which there are len, as many as they say.
-pub record InOrder (width height len : ℕ) : Type 0 where
-  pub some : 0 < width
-  pub wide : width ≤ 4096
-  pub some-rows : 0 < height
-  pub high : height ≤ 4096
-  pub long : len ≡ 2 * (width * height)
 
 -- a drawing's answer: a refusal gives its number and no mark
 abbrev pub drew : ℕ → Bool → Drawn

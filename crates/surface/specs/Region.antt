@@ -3,16 +3,11 @@ use mathlib.Core.Bool.{Bool, _&&_}
 use Prim.Native.Nat.{ℕ, _/_, _%_}
 use lib.Dec.{ltb}
 use lib.IntN.{ℤ}
-use Rattle.laws.specs.Interval.{between}
 use Rattle.clip.specs.Clip.{covers}
 
 -- the words whose pixels are in a region
 abbrev pub wordsOf : ℕ → (ℕ → ℕ → Bool) → ℕ → Bool
 wordsOf width region i = region (i % width) (i / width)
-
--- columns x0 .. x1 and rows y0 .. y1
-abbrev pub rect : (x0 x1 y0 y1 : ℕ) → (c r : ℕ) → Bool
-rect x0 x1 y0 y1 c r = between x0 x1 c && between y0 y1 r
 
 -- the box at x, y, w wide and h high, over the integers
 abbrev pub box : (x y w h : ℤ) → (c r : ℕ) → Bool

@@ -3,13 +3,14 @@ use mathlib.Core.Path.{_≡_, _∙_, ap}
 use Prim.Native.Nat.{ℕ, _+_, _-_, _*_, _/_, min}
 use native.Mathlib.Omega.{arith}
 use lib.IntN.{ℤ, pos, _+ℤ_, _-ℤ_}
-use Rattle.laws.specs.Integer.{positive, negative}
+use Rattle.laws.specs.Integer.{positive}
+use Rattle.laws.specs.Inner.{negative}
 use Rattle.laws.proofs.Integer.{sum, difference, one-part}
 use Rattle.clip.specs.Clip.{nearest}
 use Rattle.clip.specs.declared.Span.{Span}
 use Rattle.clip.proofs.Clip.{nearest-parts}
 use Rattle.glyph.proofs.Reach.{skip-parts}
-use Rattle.text.specs.Parts.{Reached}
+use Rattle.text.specs.Inner.{Reached}
 
 module _ (z : ℤ) where
   reach-parts : (w : ℕ) → positive (pos w -ℤ z +ℤ pos 5) ≡ w + negative z + 5 - positive z

@@ -6,7 +6,8 @@ use Prim.Native.Nat.{ℕ, _+_, _-_, _*_, _≤_, _<_}
 use native.Mathlib.Omega.{arith}
 use lib.IntN.{ℤ, pos, _+ℤ_}
 use lib.ListN.{getD}
-use Rattle.laws.specs.Integer.{positive, negative}
+use Rattle.laws.specs.Integer.{positive}
+use Rattle.laws.specs.Inner.{negative}
 use Rattle.laws.proofs.Integer.{sum, one-part}
 use Rattle.laws.proofs.Interval.{between-no}
 use Rattle.laws.proofs.Test.{any-end, any-more, any-none, not-left, not-right}
@@ -17,8 +18,8 @@ use Rattle.font.specs.Font.{inked}
 use Rattle.font.proofs.Columns.{five-columns}
 use Rattle.surface.specs.Region.{box}
 use Rattle.text.specs.Ink.{printable, glyphInk, charInk, glyphFor, textInk}
-use Rattle.text.specs.Parts.{Reached}
-use Rattle.glyph.specs.Parts.{past}
+use Rattle.text.specs.Inner.{Reached}
+use Rattle.glyph.specs.Past.{past}
 use Rattle.glyph.proofs.Reach.{plus-zero, past-parts}
 
 -- a character

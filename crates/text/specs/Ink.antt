@@ -8,7 +8,7 @@ use lib.ListN.{getD}
 use Rattle.laws.specs.Test.{anyBelow}
 use Rattle.font.specs.Font.{inked}
 use Rattle.surface.specs.Region.{box}
-use Rattle.glyph.specs.Parts.{past}
+use Rattle.glyph.specs.Past.{past}
 
 -- the ink of glyph g with its upper left corner at x, y: eight rows, bit 7 leftmost
 abbrev pub glyphInk : (x y : ℤ) → (g c r : ℕ) → Bool

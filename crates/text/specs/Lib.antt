@@ -1,2 +1,2 @@
 pub mod Ink
-pub mod Parts
+pub mod Inner

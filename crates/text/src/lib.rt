@@ -5,9 +5,10 @@ ghost use Prim.Native.Nat.{_*_, _≤_, _<_};
 ghost use lib.ListN.{length};
 ghost use Rattle.words.specs.Words.{painted};
 ghost use Rattle.surface.specs.Region.{wordsOf};
-ghost use Rattle.surface.specs.Refusal.{refusal, InOrder, drew, advanced, unlessRefused};
+ghost use Rattle.surface.specs.Refusal.{refusal, drew, advanced, unlessRefused};
+ghost use Rattle.surface.proofs.Accepted.{InOrder};
 ghost use Rattle.text.specs.Ink.{printable, charInk, glyphFor, textInk, unitCount, textRefusal};
-ghost use Rattle.text.specs.Parts.{Reached};
+ghost use Rattle.text.specs.Inner.{Reached};
 
 // The longest text, in units.
 pub const MAX_UNITS: usize = 65535;

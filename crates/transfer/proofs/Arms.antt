@@ -16,7 +16,7 @@ use Rattle.plan.specs.declared.Area.{Area}
 use Rattle.plan.specs.declared.Point.{Point}
 use Rattle.paint.specs.Memories.{Memories, memories, memoryOf, withMemory, over}
 use Rattle.plan.specs.Drawing.{blittedAt}
-use Rattle.transfer.specs.Transfer.{Side, Beside, blitPart, transferred}
+use Rattle.transfer.specs.Inner.{Side, Beside, blitPart, transferred}
 use Rattle.transfer.proofs.Numbers.{numbers}
 use Rattle.transfer.proofs.Drawn.{no-source, part-back}
 

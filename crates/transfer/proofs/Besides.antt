@@ -20,7 +20,7 @@ use Rattle.place.specs.declared.SurfaceId.{SurfaceId}
 use Rattle.place.specs.declared.SurfaceId.the-variants.{Panel, Bitmap}
 use Rattle.place.specs.Place.{same, live, frameOf, locate, whereIs}
 use Rattle.place.proofs.Apart.{clash, Apart, no-first, no-second, panel-store, store-panel, before, behind, apart}
-use Rattle.transfer.specs.Transfer.{Beside}
+use Rattle.transfer.specs.Inner.{Beside}
 
 -- a place that begins at a word, if it is one
 abbrev Whole : Place → Type 0

@@ -25,13 +25,14 @@ use Rattle.clip.specs.Clip.{covers}
 use Rattle.clip_blit.specs.Blit.{sourceAt, inside, drawn, drawnAt}
 use Rattle.clip_blit.proofs.Blit.{drawn-source}
 use Rattle.surface.specs.Region.{wordsOf}
-use Rattle.blit.specs.Blit.{Blit, region, marks, sourceWord, blitFrom, blitWithin, Placed}
+use Rattle.blit.specs.Blit.{Blit, region, marks, sourceWord, blitFrom}
+use Rattle.blit_within.specs.Inner.{blitWithin, Placed}
 use Rattle.blit.proofs.From.{all-rows-held}
 use Rattle.gdi.specs.Record.{size}
 use Rattle.place.specs.Place.{Inside}
 use Rattle.plan.specs.declared.Area.{Area}
 use Rattle.plan.specs.declared.Point.{Point}
-use Rattle.transfer.specs.Transfer.{Side, blitPart}
+use Rattle.transfer.specs.Inner.{Side, blitPart}
 use Rattle.transfer.proofs.Numbers.{numbers}
 
 -- a word of a part

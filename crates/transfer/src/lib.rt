@@ -8,7 +8,7 @@ ghost use Rattle.gdi.specs.Record.{size};
 ghost use Rattle.place.specs.Place.{Inside, Within};
 ghost use Rattle.paint.specs.Memories.{memories};
 ghost use Rattle.plan.specs.Drawing.{blittedAt};
-ghost use Rattle.transfer.specs.Transfer.{Side, Beside, blitPart, transferred};
+ghost use Rattle.transfer.specs.Inner.{Side, Beside, blitPart, transferred};
 use color::Rgb565;
 use place::Memory;
 use place::Place;

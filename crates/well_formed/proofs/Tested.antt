@@ -15,7 +15,7 @@ use Rattle.words.specs.Parts.{part}
 use Rattle.numbers.specs.Layout.{dcSize, objectSize, recordSize, stockDirtyPlace, countPlace, screenPlace, surfaceIn, presentIn, bitmapIn, bkTransparentIn, bitmapDirtyIn, bitmapSize}
 use Rattle.numbers.specs.Block.{at, isFlag, isDc, zerosFrom, isObject}
 use Rattle.numbers.specs.View.{isRecord}
-use Rattle.well_formed.specs.Head.{isHead, areSlots}
+use Rattle.well_formed.specs.Inner.{isHead, areSlots}
 
 -- a DC
 module _ (l : List ℕ) where

@@ -4,7 +4,7 @@ ghost use Prim.Native.Nat.{_≤_};
 ghost use lib.ListN.{length};
 ghost use Rattle.numbers.specs.Layout.{dcSize, objectSize, slotSize};
 ghost use Rattle.numbers.specs.Block.{isDc, isObject, zerosFrom, isSlot};
-ghost use Rattle.well_formed.specs.Head.{isHead};
+ghost use Rattle.well_formed.specs.Inner.{isHead};
 use numbers::BITMAP;
 use numbers::BITMAP_PRESENT;
 use numbers::BITMAP_SIZE;

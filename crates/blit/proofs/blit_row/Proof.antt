@@ -4,7 +4,7 @@ use native.Mathlib.Nat.{mul-le-mul-left}
 use native.Mathlib.Omega.{arith}
 use lib.ListN.{length}
 use borrow.Author.Needs.{needs}
-use Rattle.blit.specs.Rows.{columns, rowAt}
+use Rattle.blit.specs.Inner.{columns, rowAt}
 use Rattle.blit.proofs.From.{row-held, row-passed, end-from}
 use Rattle.blit.proofs.blit_row.Statement.{statement}
 use Rattle.blit.proofs.blit_row.Tie as tie

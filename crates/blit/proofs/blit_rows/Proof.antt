@@ -4,7 +4,7 @@ use Prim.Native.Nat.{_-_, _≤_}
 use native.Mathlib.Omega.{arith}
 use lib.ListN.{length}
 use borrow.Author.Needs.{needs}
-use Rattle.blit.specs.Rows.{rowsFrom}
+use Rattle.blit.specs.Inner.{rowsFrom}
 use Rattle.blit.proofs.From.{first-from, next-from, room-kept}
 use Rattle.blit.proofs.blit_rows.Statement.{statement}
 use Rattle.blit.proofs.blit_rows.Tie as tie

@@ -3,7 +3,7 @@ use Prim.Native.Nat.{_+_, _*_, _≤_}
 use native.Mathlib.Omega.{arith}
 use lib.ListN.{length}
 use borrow.Author.Needs.{needs}
-use Rattle.blit.specs.Rows.{columns, rowAt}
+use Rattle.blit.specs.Inner.{columns, rowAt}
 use Rattle.blit_within.proofs.Within.{row-drawn, end-within, source-within}
 use Rattle.blit_within.proofs.row_within.Statement.{statement}
 use Rattle.blit_within.proofs.row_within.Tie as tie

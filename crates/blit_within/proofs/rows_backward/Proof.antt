@@ -4,7 +4,7 @@ use Prim.Native.Nat.{_+_, _-_, _≤_}
 use native.Mathlib.Omega.{arith}
 use lib.ListN.{length}
 use borrow.Author.Needs.{needs}
-use Rattle.blit.specs.Rows.{rowsWithin}
+use Rattle.blit_within.specs.Inner.{rowsWithin}
 use Rattle.blit_within.proofs.Within.{first-within, next-up, room-kept}
 use Rattle.blit_within.proofs.rows_backward.Statement.{statement}
 use Rattle.blit_within.proofs.rows_backward.Tie as tie

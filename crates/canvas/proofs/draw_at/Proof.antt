@@ -5,8 +5,8 @@ use lib.ListN.{length}
 use borrow.Author.Needs.{needs}
 use Rattle.place.specs.declared.Memory.the-variants.{Panel, Store}
 use Rattle.place.specs.Place.{lengthOf, Inside}
-use Rattle.canvas.specs.Canvas.{marksOf, drawnOf}
 use Rattle.place.proofs.Places.{few-pixels, taken-apart}
+use Rattle.canvas.specs.Inner.{marksOf, drawnOf}
 use Rattle.canvas.proofs.Lent.{lent-in-order, no-mark, no-byte, mark-at, back-in-panel, back-in-store}
 use Rattle.canvas.proofs.draw_at.Statement.{statement}
 use Rattle.canvas.proofs.draw_at.Tie as tie

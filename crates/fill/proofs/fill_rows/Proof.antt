@@ -6,7 +6,8 @@ use native.Mathlib.Omega.{arith}
 use lib.ListN.{length}
 use borrow.Author.Needs.{needs}
 use Rattle.words.specs.Words.{painted}
-use Rattle.surface.specs.Region.{wordsOf, rect}
+use Rattle.surface.specs.Region.{wordsOf}
+use Rattle.surface.proofs.Rows.{rect}
 use Rattle.fill.proofs.Rows.{rows-first, rows-next, rows-done}
 use Rattle.fill.proofs.fill_rows.Statement.{statement}
 use Rattle.fill.proofs.fill_rows.Tie as tie

@@ -8,7 +8,8 @@ use Rattle.rop3.specs.Rop3.{tableOf}
 use Rattle.raster.specs.Raster.{ropped}
 use Rattle.words.specs.Words.{painted}
 use Rattle.clip.specs.Clip.{clippedRect}
-use Rattle.surface.specs.Region.{wordsOf, rect}
+use Rattle.surface.specs.Region.{wordsOf}
+use Rattle.surface.proofs.Rows.{rect}
 use Rattle.fill.proofs.Box.{marked, no-columns-marked, no-rows-marked, columns-fit, rows-fit, no-columns-drawn, no-rows-drawn, box-drawn}
 use Rattle.fill_rop.proofs.fill_box_rop.Statement.{statement}
 use Rattle.fill_rop.proofs.fill_box_rop.Tie as tie

@@ -8,7 +8,8 @@ use borrow.Author.Needs.{needs}
 use Rattle.words.specs.Words.{painted}
 use Rattle.rop3.specs.Rop3.{applied}
 use Rattle.raster.specs.Raster.{ropped}
-use Rattle.surface.specs.Region.{wordsOf, rect}
+use Rattle.surface.specs.Region.{wordsOf}
+use Rattle.surface.proofs.Rows.{rect}
 use Rattle.fill.proofs.Rows.{rows-first, rows-next, row-kept, rows-done}
 use Rattle.fill_rop.proofs.rop_rows.Statement.{statement}
 use Rattle.fill_rop.proofs.rop_rows.Tie as tie

@@ -15,7 +15,7 @@ use Rattle.words.proofs.Painted.{painted-none, painted-again, painted-cong}
 use Rattle.surface.specs.Region.{wordsOf}
 use Rattle.surface.proofs.Rows.{row-fits}
 use Rattle.glyph.specs.declared.Stretch.{Stretch}
-use Rattle.glyph.specs.Parts.{rowInk, bitmapInk, Shown}
+use Rattle.glyph.specs.Inner.{rowInk, bitmapInk, Shown}
 use Rattle.glyph.proofs.Reach.{plus-zero}
 use Rattle.glyph.proofs.Glyph.{rowsInk, rows-none, rows-more, glyph-clipped}
 use Rattle.glyph.proofs.draw_glyph.Statement.{statement}

@@ -3,7 +3,7 @@ use mathlib.Core.Path.{_∙_, ap, sym}
 use Prim.Native.Nat.{ℕ}
 use borrow.Author.Needs.{needs}
 use Rattle.words.specs.Words.{painted}
-use Rattle.glyph.specs.Parts.{rowInk}
+use Rattle.glyph.specs.Inner.{rowInk}
 use Rattle.glyph.proofs.Row.{blank-row}
 use Rattle.glyph.proofs.ink_row.Statement.{statement}
 use Rattle.glyph.proofs.ink_row.Tie as tie

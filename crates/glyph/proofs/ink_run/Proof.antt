@@ -5,7 +5,7 @@ use native.Mathlib.Omega.{arith}
 use lib.ListN.{length}
 use borrow.Author.Needs.{needs}
 use Rattle.words.specs.Words.{painted}
-use Rattle.glyph.specs.Parts.{rowInk}
+use Rattle.glyph.specs.Inner.{rowInk}
 use Rattle.glyph.proofs.Row.{row-none, row-next}
 use Rattle.glyph.proofs.ink_run.Statement.{statement}
 use Rattle.glyph.proofs.ink_run.Tie as tie

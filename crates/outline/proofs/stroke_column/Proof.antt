@@ -5,8 +5,8 @@ use native.Mathlib.Omega.{arith}
 use borrow.Author.Needs.{needs}
 use Rattle.words.specs.Words.{painted}
 use Rattle.words.proofs.Painted.{painted-none}
-use Rattle.surface.specs.Region.{wordsOf, rect}
-use Rattle.surface.proofs.Rows.{no-columns}
+use Rattle.surface.specs.Region.{wordsOf}
+use Rattle.surface.proofs.Rows.{rect, no-columns}
 use Rattle.outline.proofs.stroke_column.Statement.{statement}
 use Rattle.outline.proofs.stroke_column.Tie as tie
 

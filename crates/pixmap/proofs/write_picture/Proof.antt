@@ -2,7 +2,7 @@
 use mathlib.Core.Path.{sym, _∙_, ap}
 use lib.ListN.{length}
 use borrow.Author.Needs.{needs}
-use Rattle.p6.specs.Put.{put}
+use Rattle.p6.specs.Inner.{put}
 use Rattle.pixmap.specs.Pixmap.{pictureOf}
 use Rattle.pixmap.proofs.Picture.{no-picture, within}
 use Rattle.pixmap.proofs.write_picture.Statement.{statement}

@@ -5,8 +5,9 @@ use native.Mathlib.Omega.{arith}
 use lib.ListN.{length}
 use borrow.Author.Needs.{needs}
 use Rattle.words.specs.Words.{word}
-use Rattle.p6.specs.Put.{put, joined}
 use Rattle.samples.specs.Samples.{rgba}
+use Rattle.p6.specs.Joined.{joined}
+use Rattle.p6.specs.Inner.{put}
 use Rattle.p6.proofs.Put.{put-first, put-next}
 use Rattle.samples.proofs.put_rgba_run.Statement.{statement}
 use Rattle.samples.proofs.put_rgba_run.Tie as tie

@@ -5,7 +5,8 @@ use borrow.Author.Needs.{needs}
 use Rattle.sound.proofs.Objects.{bytes-bitmap, bytes-other, pixels-few}
 use Rattle.sound.proofs.bytes_of.Statement.{statement}
 use Rattle.sound.proofs.bytes_of.Tie as tie
-use Rattle.numbers.specs.Layout.{objectPlace, bitmapHeightPlace}
+use Rattle.numbers.specs.Layout.{objectPlace}
+use Rattle.numbers.proofs.Seen.{bitmapHeightPlace}
 
 add-if1 : tie.Need-add-if1
 add-if1 c = search needs

@@ -15,7 +15,7 @@ use Rattle.surface.specs.Refusal.{refusal}
 use Rattle.surface.proofs.Accepted.{in-order}
 use Rattle.surface.proofs.Answers.{accepted-answer, accepted-bytes, refused-answer, refused-bytes}
 use Rattle.text.specs.Ink.{printable, glyphInk, charInk}
-use Rattle.glyph.specs.Parts.{bitmapInk}
+use Rattle.glyph.specs.Inner.{bitmapInk}
 use Rattle.glyph.proofs.Glyph.{glyph-narrow}
 use Rattle.text.proofs.Text.{char-in, char-out}
 use Rattle.text.proofs.Units.{printable-range}

@@ -17,8 +17,8 @@ use Rattle.font.specs.Font.{glyphOf}
 use Rattle.surface.specs.Region.{wordsOf}
 use Rattle.surface.proofs.Rows.{column-lt, row-lt}
 use Rattle.text.specs.Ink.{glyphInk, textInk}
-use Rattle.glyph.specs.Parts.{bitmapInk}
-use Rattle.text.specs.Parts.{Reached}
+use Rattle.text.specs.Inner.{Reached}
+use Rattle.glyph.specs.Inner.{bitmapInk}
 use Rattle.glyph.proofs.Glyph.{glyph-narrow, rows-missed}
 use Rattle.glyph.proofs.Reach.{plus-zero}
 use Rattle.text.proofs.Text.{text-more, text-off, text-first, text-last}

@@ -1,3 +1,4 @@
+-- Definitions that only inner functions cite: no exported contract reaches them.
 -- One pass over the slots of a record's numbers.
 use mathlib.Core.Bool.{true, cond, _&&_}
 use mathlib.Core.List.{List}
@@ -6,7 +7,7 @@ use Prim.Native.Nat.{ℕ}
 use Rattle.numbers.specs.Layout.{countPlace}
 use Rattle.numbers.specs.Block.{at}
 use Rattle.numbers.specs.View.{view}
-use Rattle.well_formed.specs.Head.{areSlots}
+use Rattle.well_formed.specs.Inner.{areSlots}
 use Rattle.sound.specs.declared.Scan.{Scan}
 use Rattle.sound.specs.Sound.{slotsFit, distinct, used}
 

@@ -1,7 +1,9 @@
+-- Definitions that only inner functions cite: no exported contract reaches them.
 -- What the search for the units on a surface ensures.
 use Prim.Native.Nat.{ℕ, _+_, _*_, _≤_, _<_}
 use lib.IntN.{ℤ}
-use Rattle.laws.specs.Integer.{positive, negative}
+use Rattle.laws.specs.Integer.{positive}
+use Rattle.laws.specs.Inner.{negative}
 use Rattle.clip.specs.declared.Span.{Span}
 
 -- each unit before s ends left of the surface, and each after it starts right of the surface

@@ -1,8 +1,7 @@
+-- Definitions that only inner functions cite: no exported contract reaches them.
 -- The rows of a clipped box, for the loops over them: where each is drawn, where it is taken from, and what some of them leave.
-use mathlib.Core.Path.{_≡_}
 use mathlib.Core.Bool.{Bool, _&&_}
 use mathlib.Core.List.{List}
-use mathlib.Core.Logic.{_⊎_}
 use Prim.Native.Nat.{ℕ, _+_, _-_, _*_, _/_, _%_, _≤_, _<_}
 use lib.Dec.{leb}
 use lib.ListN.{length}
@@ -10,7 +9,8 @@ use Rattle.laws.specs.Interval.{between}
 use Rattle.words.specs.Words.{word, painted}
 use Rattle.raster.specs.Raster.{ropped}
 use Rattle.clip_blit.specs.declared.BlitRect.{BlitRect}
-use Rattle.surface.specs.Region.{wordsOf, rect}
+use Rattle.surface.specs.Region.{wordsOf}
+use Rattle.surface.proofs.Rows.{rect}
 
 -- the box's number of columns
 abbrev pub columns : BlitRect → ℕ
@@ -43,22 +43,6 @@ rowsFrom box width src-w table pat y src m =
     painted (wordsOf width (λ c r. rect (box .x0) (box .x1) (box .y0) y c r && held box src-w (length src) r))
     (ropped table pat (λ i. word src (taken box width src-w i)) m) m
 
--- memory m with row y drawn from its own words, of a surface at word src-at to one at word at
-unfoldable pub rowWithin : BlitRect → (at width src-at src-w table pat y : ℕ) → (m : List ℕ) → List ℕ
-rowWithin box at width src-at src-w table pat y m =
-    painted (between (at + rowAt box width y) (at + rowAt box width y + columns box))
-    (ropped table pat (λ i. word m (src-at + sourceRowAt box src-w y + (i - (at + rowAt box width y)))) m) m
-
--- the words of rows top .. bottom of the box, on a surface at word at
-abbrev pub rowsAt : BlitRect → (at width top bottom i : ℕ) → Bool
-rowsAt box at width top bottom i = leb at i && wordsOf width (rect (box .x0) (box .x1) top bottom) (i - at)
-
--- memory m with those rows drawn from its words as they were
-unfoldable pub rowsWithin : BlitRect → (at width src-at src-w table pat top bottom : ℕ) → (m : List ℕ) → List ℕ
-rowsWithin box at width src-at src-w table pat top bottom m =
-    painted (rowsAt box at width top bottom)
-    (ropped table pat (λ i. word m (src-at + taken box width src-w (i - at))) m) m
-
 -- The box's columns lie on a surface of that width.
 pub record Across (width : ℕ) (box : BlitRect) : Type 0 where
   pub some : 0 < width
@@ -71,12 +55,3 @@ pub record RoomFrom (len width src-w : ℕ) (box : BlitRect) : Type 0 where
   pub across : Across width box
   pub bottom : 2 * (box .y1 * width) ≤ len
   pub narrow : src-w ≤ 4096
-
--- The box and its source lie on surfaces of one memory of len bytes, which are one or have no row of theirs in common.
-pub record RoomWithin (len at width src-at src-w : ℕ) (box : BlitRect) : Type 0 where
-  pub across : Across width box
-  pub bottom : 2 * (at + box .y1 * width) ≤ len
-  pub narrow : width ≤ 4096
-  pub right-source : box .«src_x0» + columns box ≤ src-w
-  pub bottom-source : 2 * (src-at + (box .«src_y0» + (box .y1 - box .y0)) * src-w) ≤ len
-  pub apart : ((at ≡ src-at) × (width ≡ src-w)) ⊎ ((at + box .y1 * width ≤ src-at) ⊎ (src-at + (box .«src_y0» + (box .y1 - box .y0)) * src-w ≤ at))

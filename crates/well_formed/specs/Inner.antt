@@ -1,3 +1,4 @@
+-- Definitions that only inner functions cite: no exported contract reaches them.
 -- The test of a record's numbers, in two: the head, and the slots.
 use mathlib.Core.Bool.{Bool, _&&_}
 use mathlib.Core.List.{List}

@@ -1,9 +1,10 @@
+-- Definitions that only inner functions cite: no exported contract reaches them.
 -- What the code draws of an outline: four sides between the clipped edges of the box.
 use mathlib.Core.Bool.{Bool, _||_}
 use Prim.Native.Nat.{ℕ, suc, _≤_}
 use lib.IntN.{ℤ, pos, _+ℤ_, _-ℤ_}
 use Rattle.clip.specs.Clip.{nearest}
-use Rattle.surface.specs.Region.{rect}
+use Rattle.surface.proofs.Rows.{rect}
 use Rattle.outline.specs.declared.Edges.{Edges}
 
 -- the first and the last coordinate of x .. x + w, each with the one behind it, on 0 .. side

@@ -1,3 +1,4 @@
+-- Definitions that only inner functions cite: no exported contract reaches them.
 -- A blit as the code makes it, between two places.
 use mathlib.Core.List.{List}
 use mathlib.Core.Logic.{_⊎_}

@@ -1,20 +1,17 @@
+-- Definitions that only inner functions cite: no exported contract reaches them.
 -- The ink of eight rows on a surface, and what the steps of drawing it ensure.
 use mathlib.Core.Bool.{Bool, false, _&&_}
 use mathlib.Core.List.{List}
 use mathlib.Core.Path.{_≡_}
 use Prim.Native.Nat.{ℕ, _+_, _-_, _≤_, _<_}
-use lib.IntN.{ℤ, pos, _-ℤ_}
+use lib.IntN.{ℤ, pos}
 use lib.ListN.{getD}
-use Rattle.laws.specs.Integer.{positive}
 use Rattle.laws.specs.Interval.{between}
 use Rattle.clip.specs.Clip.{covers}
 use Rattle.font.specs.Font.{inkAt}
 use Rattle.surface.specs.Region.{box}
 use Rattle.glyph.specs.declared.Stretch.{Stretch}
-
--- how far the coordinate c lies past z
-abbrev pub past : ℤ → ℕ → ℕ
-past z c = positive (pos c -ℤ z)
+use Rattle.glyph.specs.Past.{past}
 
 -- the n words from d on where the row has ink, from its column skip on
 abbrev pub rowInk : (row skip d n : ℕ) → ℕ → Bool

@@ -1,3 +1,4 @@
+-- Definitions that only inner functions cite: no exported contract reaches them.
 -- Where a DC stands.
 use mathlib.Core.Path.{_≡_}
 use Prim.Native.Nat.{ℕ}
