@@ -92,6 +92,13 @@ refused-answer c {s} ne x = x .performed .answer ∙ ap (λ (p : Plan). p .outco
 pub no-record-refuses : (s : Lending) → isRecord (s .numbers) ≡ false → refusesEvery s ≡ 0 → ⊥
 no-record-refuses s e z = omega (arith, rw e at z)
 
+pub served-record : (s : Lending) → refusesEvery s ≡ 0 → isRecord (s .numbers) ≡ true
+served-record s z = by (isRecord (s .numbers)) refl
+  where
+    by : (b : Bool) → isRecord (s .numbers) ≡ b → b ≡ true
+    by true e = refl
+    by false e = absurd (no-record-refuses s e z)
+
 no-record-answer : (c : Invocation) {s t : Lending} {a : Parts} → isRecord (s .numbers) ≡ false → PerformPromises c s a t → a ≡ refused 9
 no-record-answer c {s} e x =
     refused-answer c (no-record-refuses s e) x ∙ rw e

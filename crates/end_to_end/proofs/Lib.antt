@@ -1,3 +1,6 @@
 pub mod Replies
 pub mod Entries
 pub mod Lists
+pub mod Snapshots
+pub mod Fresh
+pub mod Screens

@@ -3,8 +3,10 @@ use mathlib.Core.Bool.{Bool, true, false, true≢false}
 use mathlib.Core.List.{List, [], _∷_, _++_}
 use mathlib.Core.Path.{_≡_, refl, sym, _∙_, ap, ap₂, subst, subst₂}
 use Prim.Native.Nat.{ℕ}
-use native.Mathlib.Omega.{arith}
+use lib.Dec.{eqb}
 use lib.ListN.{length}
+use borrow.Author.Tests.{eqb-true}
+use Rattle.laws.proofs.Test.{both}
 use Rattle.numbers.specs.View.{view, isRecord}
 use Rattle.place.specs.declared.SurfaceId.{SurfaceId}
 use Rattle.paint.specs.Marks.{Marks}
@@ -14,7 +16,7 @@ use Rattle.noninterference.specs.Claim.{Agree, marksAfter, marksOf}
 use Rattle.noninterference.proofs.Noninterference.{noninterference}
 use Rattle.noninterference.proofs.After.{marks-append}
 use Rattle.end_to_end.specs.Lists.{Lending, deviceOf, refusesEvery, isPixelOf, colourOf, EqualBut, Entry, throughPerform, throughHost, Made, none, call, callsOf, ListsAgree}
-use Rattle.end_to_end.proofs.Entries.{SameRecord, no-record, record-of, no-record-refuses, Lawful, perform-lawful, host-lawful}
+use Rattle.end_to_end.proofs.Entries.{SameRecord, no-record, record-of, no-record-refuses, served-record, Lawful, perform-lawful, host-lawful}
 
 -- Memories of equal lengths; both are no record, or both are one, and the devices agree but for marked pixels.
 pub record Linked (m : Marks) (s t : Lending) : Type 0 where
@@ -34,6 +36,12 @@ same-record {m} {s} {t} l = by (isRecord (s .numbers)) refl
     by true e = record-of e (sym (l .records) ∙ e) (l .agree e .states) (l .panels) (l .stores)
     by false e = no-record e (sym (l .records) ∙ e)
 
+-- pixels left unmarked have equal colours
+pub linked-pixels : {m : Marks} {s t : Lending} → Linked m s t → (u : SurfaceId) (x y : ℕ) → isPixelOf s u x y ≡ true → (m u x y → ⊥) → colourOf s u x y ≡ colourOf t u x y
+linked-pixels {s = s} l u x y i n =
+    let e = served-record s (eqb-true (refusesEvery s) 0 (both (eqb (refusesEvery s) 0) _ i .0)) in
+    l .agree e .pixels u x y (rw e at i) n
+
 -- equal but for marked pixels is linked with equal numbers
 pub linked-of : {m : Marks} {s t : Lending} → EqualBut m s t → Linked m s t
 linked-of {s = s} q =
@@ -45,15 +53,11 @@ linked-of {s = s} q =
     }
 
 equal-of : {m : Marks} {s t : Lending} → s .numbers ≡ t .numbers → Linked m s t → EqualBut m s t
-equal-of {m} {s} {t} n l = record { numbers = n; panels = l .panels; stores = l .stores; pixels = λ u x y. by (isRecord (s .numbers)) refl u x y }
-  where
-    by : (b : Bool) → isRecord (s .numbers) ≡ b → (u : SurfaceId) (x y : ℕ) → isPixelOf s u x y ≡ true → (m u x y → ⊥) → colourOf s u x y ≡ colourOf t u x y
-    by true e u x y i z = l .agree e .pixels u x y (rw e at i) z
-    by false e u x y i z = absurd (true≢false (sym (rw e at i)))
+equal-of n l = record { numbers = n; panels = l .panels; stores = l .stores; pixels = linked-pixels l }
 
 module _ (e : Entry) (law : Lawful e) where
   -- where every call is refused, everything is as it was
-  made-refused : {cs : List (e .Argument)} {s t : Lending} {rs : List (e .Answer)} → (refusesEvery s ≡ 0 → ⊥) → Made e cs s rs t → t ≡ s
+  pub made-refused : {cs : List (e .Argument)} {s t : Lending} {rs : List (e .Answer)} → (refusesEvery s ≡ 0 → ⊥) → Made e cs s rs t → t ≡ s
   made-refused ne none = refl
   made-refused ne (call {c = c} {s = s} {t = t} {a = a} x xs) =
       let q = law .refuses c s t a ne x in
@@ -122,13 +126,10 @@ module _ (e : Entry) (law : Lawful e) where
 
   -- where calls are looked at, they are after every list
   pub made-looks : {cs : List (e .Argument)} {s t : Lending} {rs : List (e .Answer)} → refusesEvery s ≡ 0 → Made e cs s rs t → refusesEvery t ≡ 0
-  made-looks {cs} {s} {t} {rs} z xs = by (isRecord (s .numbers)) refl
-    where
-      by : (b : Bool) → isRecord (s .numbers) ≡ b → refusesEvery t ≡ 0
-      by true f =
-          let (g, q) = made-makes f xs in
-          rw (g) (ap refusesAll q ∙ run-kept (callsOf e cs) (deviceOf s) .looked (rw f at z))
-      by false f = absurd (omega (arith, rw f at z))
+  made-looks {cs} {s} z xs =
+      let f = served-record s z in
+      let (g, q) = made-makes f xs in
+      rw g (ap refusesAll q ∙ run-kept (callsOf e cs) (deviceOf s) .looked (rw f at z))
 
   pub lists-agree : ListsAgree e
   lists-agree =

@@ -22,8 +22,8 @@ pub record SameSnapshots (f : Format) (s t : Lending) : Type 0 where
 
 -- the formats in which a screen is saved
 pub data Saves : Format → Type 0 where
-  rgba : Saves rgba8888
-  picture : Saves ppm
+  as-rgba : Saves rgba8888
+  as-ppm : Saves ppm
 
 -- Both show the same: they refuse alike, have equal records and pixels of equal colours, and both snapshots are the same.
 pub record SameScreen (s t : Lending) : Type 0 where

@@ -1,0 +1,156 @@
+-- Snapshots depend on the record and on the panel's pixels alone. Assumes nothing.
+use mathlib.Core.Bool.{Bool, true, false, cond, _&&_, true≢false}
+use mathlib.Core.List.{List, _++_}
+use mathlib.Core.Logic.{_⊎_, inl, inr}
+use mathlib.Core.Path.{_≡_, refl, sym, _∙_, ap, ap₂, subst}
+use Prim.Native.Nat.{ℕ, zero, suc, _+_, _*_, _/_, _%_, _<_}
+use native.Mathlib.Nat.{div-add-mod', mod-lt, div-lt-iff-lt-mul, mul-comm}
+use native.Mathlib.Omega.{arith}
+use lib.Dec.{eqb}
+use lib.ListN.{length, drop}
+use lib.Seq.{getD-take, getD-drop}
+use borrow.Author.Tests.{eq-eqb, lt-ltb}
+use Rattle.laws.proofs.Test.{together}
+use Rattle.words.specs.Words.{word}
+use Rattle.words.specs.Parts.{part}
+use Rattle.surface.proofs.Accepted.{side-range}
+use Rattle.gdi.specs.declared.GdiState.{GdiState}
+use Rattle.numbers.specs.View.{view, isRecord}
+use Rattle.sound.specs.Sound.{isSound}
+use Rattle.sound.proofs.Sound.{parts}
+use Rattle.ready.specs.Ready.{commonRefusal}
+use Rattle.ready.proofs.Ready.{ready}
+use Rattle.place.specs.declared.SurfaceId.the-variants.{Panel}
+use Rattle.place.specs.Place.{whereIs}
+use Rattle.paint.specs.Memories.{colourAt}
+use Rattle.paint.specs.Marks.{Marks}
+use Rattle.execution.specs.Execution.{refusesAll}
+use Rattle.p6.specs.P6.{p6}
+use Rattle.p6.specs.Put.{joined}
+use Rattle.samples.specs.Samples.{rgb, rgba}
+use Rattle.snapshot.specs.Snapshot.{snapshotRefusal, Format, Snapped}
+use Rattle.end_to_end.specs.Lists.{Lending, deviceOf, refusesEvery, isPixelOf}
+use Rattle.end_to_end.specs.Screens.{Saves, as-rgba, as-ppm, SameSnapshots}
+use Rattle.end_to_end.proofs.Entries.{served-record}
+use Rattle.end_to_end.proofs.Lists.{Linked}
+
+-- ---- a picture depends on the panel's words
+
+joined-same : (f g : ℕ → List ℕ) (n : ℕ) → ((i : ℕ) → i < n → f i ≡ g i) → joined f n ≡ joined g n
+unfolding joined
+joined-same f g zero e = refl
+joined-same f g (suc n) e = ap₂ _++_ (joined-same f g n (λ i lt. e i (omega arith))) (e n (omega arith))
+
+picture-same : {f : Format} → Saves f → (w h : ℕ) (m k : List ℕ) → ((i : ℕ) → i < w * h → word m i ≡ word k i) → f .picture w h m ≡ f .picture w h k
+picture-same as-rgba w h m k e = joined-same _ _ (w * h) (λ i lt. ap rgba (e i lt))
+picture-same as-ppm w h m k e = ap (p6 w h) (joined-same _ _ (w * h) (λ i lt. ap rgb (e i lt)))
+
+-- ---- the panel's words are its pixels
+
+word-part : (m : List ℕ) (n j : ℕ) → j < n → word (part m 0 (2 * n)) j ≡ word m j
+unfolding word
+word-part m n j lt = rw (getD-take (2 * n) (drop 0 m) (2 * j) 0 (omega arith), getD-take (2 * n) (drop 0 m) (2 * j + 1) 0 (omega arith))
+
+-- the pixel of word i
+module _ (w h i : ℕ) (some : 0 < w) (lt : i < w * h) where
+  column-lt : i % w < w
+  column-lt = mod-lt i some
+
+  row-lt : i / w < h
+  row-lt = div-lt-iff-lt-mul some .1 (omega (arith, lt, mul-comm w h))
+
+  pixel-word : (m : List ℕ) → word (part m 0 (2 * (w * h))) (i % w + i / w * w) ≡ word m i
+  pixel-word m =
+      let e : i % w + i / w * w ≡ i = omega (arith, div-add-mod' i w) in
+      rw e (word-part m (w * h) i lt)
+
+module _ {m : Marks} {s t : Lending} (l : Linked m s t) where
+  -- the records are the same
+  views : isRecord (s .numbers) ≡ true → view (s .numbers) ≡ view (t .numbers)
+  views e = l .agree e .states
+
+  -- calls are looked at, and no pixel of the panel is marked
+  module _ (served : refusesEvery s ≡ 0) (clear : (x y : ℕ) → isPixelOf s Panel x y ≡ true → m Panel x y → ⊥) where
+    is-record : isRecord (s .numbers) ≡ true
+    is-record = served-record s served
+
+    panel-words : (i : ℕ) → i < view (s .numbers) .width * view (s .numbers) .height → word (s .memories .panel) i ≡ word (t .memories .panel) i
+    panel-words i lt =
+        let w = view (s .numbers) .width in
+        let h = view (s .numbers) .height in
+        let looked : refusesAll (deviceOf s) ≡ 0 = rw is-record at served in
+        let r = ready (view (s .numbers)) _ _ _ refl looked in
+        let some : 0 < w = omega (arith, side-range w (parts (view (s .numbers)) (r .sound) .width) .0) in
+        let x = i % w in
+        let y = i / w in
+        let within = together (lt-ltb x w (column-lt w h i some lt)) (lt-ltb y h (row-lt w h i some lt)) in
+        let pixel = together (eq-eqb (refusesEvery s) 0 served) within in
+        let same : colourAt (s .memories) (whereIs (view (s .numbers)) Panel) x y ≡ colourAt (t .memories) (whereIs (view (s .numbers)) Panel) x y =
+        subst (λ (b : GdiState). colourAt (s .memories) (whereIs (view (s .numbers)) Panel) x y ≡ colourAt (t .memories) (whereIs b Panel) x y) (sym (views is-record))
+        (l .agree is-record .pixels Panel x y (together (eq-eqb (refusesAll (deviceOf s)) 0 looked) within) (clear x y pixel))
+        in
+        sym (pixel-word w h i some lt (s .memories .panel)) ∙ same ∙ pixel-word w h i some lt (t .memories .panel)
+
+-- ---- a snapshot's number follows from the record and the lengths
+
+abbrev numberBy : Bool → GdiState → (panel-len out-len : ℕ) → (wanted : (width height : ℕ) → ℕ) → ℕ
+numberBy r b n got wanted =
+    cond (eqb (cond r (commonRefusal b n (b .«store_len»)) 9) 0) (cond (eqb got (wanted (b .width) (b .height))) 0 8) (cond r (commonRefusal b n (b .«store_len»)) 9)
+
+number-same : {m : Marks} {s t : Lending} → Linked m s t → (out out′ : List ℕ) → length out ≡ length out′ → (wanted : (width height : ℕ) → ℕ)
+    → snapshotRefusal (s .numbers) (length (s .memories .panel)) (length out) wanted ≡ snapshotRefusal (t .numbers) (length (t .memories .panel)) (length out′) wanted
+unfolding snapshotRefusal
+number-same {s = s} {t = t} l out out′ long wanted = by (isRecord (s .numbers)) (isRecord (t .numbers)) (l .records) (views l)
+  where
+    by : (r q : Bool) → r ≡ q → (r ≡ true → view (s .numbers) ≡ view (t .numbers))
+        → numberBy r (view (s .numbers)) (length (s .memories .panel)) (length out) wanted ≡ numberBy q (view (t .numbers)) (length (t .memories .panel)) (length out′) wanted
+    by true true e f = λ i. numberBy true (f refl i) (l .panels i) (long i) wanted
+    by true false e f = absurd (true≢false e)
+    by false true e f = absurd (true≢false (sym e))
+    by false false e f = refl
+
+-- an unsound record is refused, and numbers that are none
+nine-refused : (s : Lending) (got : ℕ) (wanted : (width height : ℕ) → ℕ) → refusesEvery s ≡ 9 → snapshotRefusal (s .numbers) (length (s .memories .panel)) got wanted ≡ 0 → ⊥
+unfolding snapshotRefusal commonRefusal
+nine-refused s got wanted = by (isRecord (s .numbers)) (isSound (view (s .numbers))) (eqb n (b .«panel_len»)) (eqb (length (s .memories .store)) (b .«store_len»))
+  where
+    b : GdiState
+    b = view (s .numbers)
+
+    n : ℕ
+    n = length (s .memories .panel)
+
+    common : (r t p q : Bool) → ℕ
+    common r t p q = cond r (cond t (cond (p && q) 0 8) 9) 9
+
+    by : (r t p q : Bool) → common r t p q ≡ 9
+        → cond (eqb (common r t p (eqb (b .«store_len») (b .«store_len»))) 0) (cond (eqb got (wanted (b .width) (b .height))) 0 8) (common r t p (eqb (b .«store_len») (b .«store_len»))) ≡ 0 → ⊥
+    by true true true true e z = omega (arith, e)
+    by true true true false e z = omega (arith, e)
+    by true true false q e z = omega (arith, e)
+    by true false p q e z = omega (arith, z)
+    by false t p q e z = omega (arith, z)
+
+-- Calls are looked at, or the record is refused with 9: not one of a store of another length, whose panel is a snapshot's all the same.
+abbrev pub Settled : Lending → Type 0
+Settled s = (refusesEvery s ≡ 0) ⊎ (refusesEvery s ≡ 9)
+
+module _ {m : Marks} {s t : Lending} (l : Linked m s t) (settled : Settled s) (clear : (x y : ℕ) → isPixelOf s Panel x y ≡ true → m Panel x y → ⊥) {f : Format} (saves : Saves f) where
+  pub same-snapshots : SameSnapshots f s t
+  same-snapshots =
+      record {
+        numbers = λ out₁ out₂ out₁′ out₂′ n k long x y. x .answer ∙ number-same l out₁ out₂ long (f .wanted) ∙ sym (y .answer);
+        bytes = λ out₁ out₂ out₁′ out₂′ n k long x y z. by settled out₁ out₂ out₁′ out₂′ n k long x y z;
+      }
+    where
+      by : Settled s → (out₁ out₂ out₁′ out₂′ : List ℕ) (n k : ℕ) → length out₁ ≡ length out₂ → Snapped f (s .numbers) (s .memories .panel) out₁ n out₁′
+          → Snapped f (t .numbers) (t .memories .panel) out₂ k out₂′ → n ≡ 0 → out₁′ ≡ out₂′
+      by (inl served) out₁ out₂ out₁′ out₂′ n k long x y z =
+          let w = view (s .numbers) .width in
+          let h = view (s .numbers) .height in
+          let z′ : k ≡ 0 = y .answer ∙ sym (number-same l out₁ out₂ long (f .wanted)) ∙ sym (x .answer) ∙ z in
+          let made : out₁′ ≡ f .picture w h (s .memories .panel) = x .bytes ∙ rw (eq-eqb n 0 z) in
+          let made′ : out₂′ ≡ f .picture (view (t .numbers) .width) (view (t .numbers) .height) (t .memories .panel) = y .bytes ∙ rw (eq-eqb k 0 z′) in
+          made ∙ picture-same saves w h (s .memories .panel) (t .memories .panel) (panel-words l served clear)
+          ∙ ap (λ (b : GdiState). f .picture (b .width) (b .height) (t .memories .panel)) (views l (served-record s served)) ∙ sym made′
+      by (inr nine) out₁ out₂ out₁′ out₂′ n k long x y z = absurd (nine-refused s (length out₁) (f .wanted) nine (sym (x .answer) ∙ z))
