@@ -1,14 +1,13 @@
 -- What both entries have: each call is that of the device, or refused and everything as it was. Assumes nothing.
 use mathlib.Core.Bool.{Bool, true, false, cond}
 use mathlib.Core.List.{List, [], _∷_}
-use mathlib.Core.Path.{_≡_, refl, sym, _∙_, ap, ap₂, subst, subst₂}
+use mathlib.Core.Path.{_≡_, refl, sym, _∙_, ap, ap₂, subst}
 use Prim.Native.Nat.{ℕ}
 use native.Mathlib.Decide.{ℕ-discrete}
 use native.Mathlib.Omega.{arith}
 use lib.Dec.{eqb}
 use lib.ListN.{length}
 use borrow.Author.Tests.{ne-eqb}
-use Rattle.gdi.specs.declared.GdiState.{GdiState}
 use Rattle.numbers.specs.View.{view, isRecord}
 use Rattle.canonical.proofs.Pinned.{stored-unique}
 use Rattle.ready.specs.Ready.{commonRefusal, commonRefusalOn}
@@ -17,8 +16,8 @@ use Rattle.plan.specs.declared.Call.{Call}
 use Rattle.plan.specs.Answer.{Parts, refused}
 use Rattle.plan.specs.Plan.{Plan, refuse}
 use Rattle.plan.specs.Calls.{act, plan, planOn}
-use Rattle.plan.specs.Followed.{Followed, Performed}
-use Rattle.execution.specs.Execution.{Device, device, Invocation, planFor, answer, step, run}
+use Rattle.plan.specs.Followed.{Followed}
+use Rattle.execution.specs.Execution.{Invocation, planFor, answer, run}
 use Rattle.execution.proofs.Performed.{performed-step}
 use Rattle.host_call.specs.declared.CallRead.{CallRead}
 use Rattle.host_call.specs.declared.CallRead.the-variants.{NoCall, Is}

@@ -14,18 +14,15 @@ use Rattle.laws.proofs.Test.{both}
 use Rattle.words.specs.Words.{word}
 use Rattle.words.specs.Parts.{part}
 use Rattle.words.proofs.Parts.{length-with, part-same}
-use Rattle.surface.specs.Refusal.{unlessRefused}
-use Rattle.gdi.specs.declared.GdiState.{GdiState}
 use Rattle.gdi.specs.Record.{size, fresh}
 use Rattle.gdi.specs.Stock.{stockBitmap}
 use Rattle.numbers.specs.Layout.{recordSize}
-use Rattle.numbers.specs.View.{view, isRecord}
+use Rattle.numbers.specs.View.{isRecord}
 use Rattle.numbers.proofs.Seen.{record-length}
 use Rattle.sound.specs.Sound.{isSound}
 use Rattle.memory.specs.Gap.{blanked}
 use Rattle.ready.specs.Ready.{commonRefusal}
 use Rattle.ready.proofs.Ready.{looks}
-use Rattle.place.specs.declared.Place.{Place}
 use Rattle.place.specs.declared.Place.the-variants.{Nowhere, At}
 use Rattle.place.specs.declared.Memory.the-variants.{Store}
 use Rattle.place.specs.declared.SurfaceId.{SurfaceId}
@@ -34,7 +31,7 @@ use Rattle.place.specs.Place.{locate, slotsFrom, whereIs}
 use Rattle.place.proofs.Apart.{clash}
 use Rattle.paint.specs.Memories.{Memories, memories, inside, colourAt}
 use Rattle.paint.specs.Marks.{Marks}
-use Rattle.plan.specs.Open.{openRefusal, openNumber, openedAs, Opened}
+use Rattle.plan.specs.Open.{openRefusal, openNumber, Opened}
 use Rattle.open.proofs.Opened.{Accepted, accepted, opened-sound}
 use Rattle.execution.specs.Execution.{Device, device, refusesAll}
 use Rattle.noninterference.specs.Claim.{Agree}

@@ -1,6 +1,6 @@
 -- Lists of calls through an entry are those of the devices, so that what holds of devices holds of what callers lend. Assumes nothing.
 use mathlib.Core.Bool.{Bool, true, false, true≢false}
-use mathlib.Core.List.{List, [], _∷_, _++_}
+use mathlib.Core.List.{List, _∷_, _++_}
 use mathlib.Core.Path.{_≡_, refl, sym, _∙_, ap, ap₂, subst, subst₂}
 use Prim.Native.Nat.{ℕ}
 use lib.Dec.{eqb}

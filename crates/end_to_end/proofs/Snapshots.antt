@@ -7,12 +7,12 @@ use Prim.Native.Nat.{ℕ, zero, suc, _+_, _*_, _/_, _%_, _<_}
 use native.Mathlib.Nat.{div-add-mod', mod-lt, div-lt-iff-lt-mul, mul-comm}
 use native.Mathlib.Omega.{arith}
 use lib.Dec.{eqb}
-use lib.ListN.{length, drop}
-use lib.Seq.{getD-take, getD-drop}
+use lib.ListN.{length}
 use borrow.Author.Tests.{eq-eqb, lt-ltb}
 use Rattle.laws.proofs.Test.{together}
 use Rattle.words.specs.Words.{word}
 use Rattle.words.specs.Parts.{part}
+use Rattle.words.proofs.Parts.{word-part}
 use Rattle.surface.proofs.Accepted.{side-range}
 use Rattle.gdi.specs.declared.GdiState.{GdiState}
 use Rattle.numbers.specs.View.{view, isRecord}
@@ -26,7 +26,7 @@ use Rattle.paint.specs.Memories.{colourAt}
 use Rattle.paint.specs.Marks.{Marks}
 use Rattle.execution.specs.Execution.{refusesAll}
 use Rattle.p6.specs.P6.{p6}
-use Rattle.p6.specs.Put.{joined}
+use Rattle.p6.specs.Joined.{joined}
 use Rattle.samples.specs.Samples.{rgb, rgba}
 use Rattle.snapshot.specs.Snapshot.{snapshotRefusal, Format, Snapped}
 use Rattle.end_to_end.specs.Lists.{Lending, deviceOf, refusesEvery, isPixelOf}
@@ -47,10 +47,6 @@ picture-same as-ppm w h m k e = ap (p6 w h) (joined-same _ _ (w * h) (λ i lt. a
 
 -- ---- the panel's words are its pixels
 
-word-part : (m : List ℕ) (n j : ℕ) → j < n → word (part m 0 (2 * n)) j ≡ word m j
-unfolding word
-word-part m n j lt = rw (getD-take (2 * n) (drop 0 m) (2 * j) 0 (omega arith), getD-take (2 * n) (drop 0 m) (2 * j + 1) 0 (omega arith))
-
 -- the pixel of word i
 module _ (w h i : ℕ) (some : 0 < w) (lt : i < w * h) where
   column-lt : i % w < w
@@ -62,7 +58,7 @@ module _ (w h i : ℕ) (some : 0 < w) (lt : i < w * h) where
   pixel-word : (m : List ℕ) → word (part m 0 (2 * (w * h))) (i % w + i / w * w) ≡ word m i
   pixel-word m =
       let e : i % w + i / w * w ≡ i = omega (arith, div-add-mod' i w) in
-      rw e (word-part m (w * h) i lt)
+      rw e (word-part m 0 (w * h) i lt ∙ ap (word m) (omega arith))
 
 module _ {m : Marks} {s t : Lending} (l : Linked m s t) where
   -- the records are the same

@@ -16,7 +16,6 @@ use Rattle.surface.specs.Region.{wordsOf}
 use Rattle.fill.specs.Fill.{filled, fillMarks}
 use Rattle.outline.specs.Outline.{outlined, outlineMarks}
 use Rattle.blit.specs.Blit.{blitOf, blitFrom}
-use Rattle.blit_within.specs.Inner.{blitWithin}
 use Rattle.text.specs.Ink.{charInk}
 use Rattle.gdi.specs.declared.GdiState.{GdiState}
 use Rattle.gdi.specs.declared.GdiObject.{GdiObject}
@@ -24,11 +23,16 @@ use Rattle.gdi.specs.declared.GdiObject.the-variants.{Bitmap}
 use Rattle.gdi.specs.Record.{freshBitmap, fresh}
 use Rattle.gdi.specs.Updates.{withObjects}
 use Rattle.gdi.specs.Stock.{isStock}
-use Rattle.gdi.specs.Lookup.{objectAt}
+use Rattle.gdi.specs.Lookup.{objectAt, dcOf}
+use Rattle.place.specs.Place.{targetOf}
 use Rattle.handles.specs.Handles.{free, firstFree, newHandle, added}
+use Rattle.paint.specs.Memories.{memories}
+use Rattle.paint.specs.Paint.{paintedBy, after}
 use Rattle.plan.specs.Answer.{answered}
 use Rattle.plan.specs.Plan.{refuse}
+use Rattle.plan.specs.Stroke.{paintsOf}
 use Rattle.plan.specs.Create.{createOf, createBitmap}
+use Rattle.plan.specs.Drawing.{blit}
 use Rattle.p6.specs.P6.{header, digits}
 use Rattle.p6.specs.Joined.{joined}
 use Rattle.pixmap.specs.Pixmap.{isPicture, pictureOf}
@@ -110,8 +114,13 @@ unfolding painted written inkAt glyphs
 letter-at-the-edge = refl
 
 -- row a b c, blit 2 wide from 0 to 1: a a b
-pub row-moved-onto-itself : blitWithin (blitOf 3 1 (pos 1) (pos 0) (pos 0) (pos 0) (pos 2) (pos 1) 3 1) 0 0 0xCC 0 (0xA1 ∷ 0xA0 ∷ 0xB1 ∷ 0xB0 ∷ 0xC1 ∷ 0xC0 ∷ []) ≡ 0xA1 ∷ 0xA0 ∷ 0xA1 ∷ 0xA0 ∷ 0xB1 ∷ 0xB0 ∷ []
-unfolding blitWithin painted written word applied
+abbrev row : GdiState
+row = fresh 6 2 3 1
+
+pub row-moved-onto-itself : after row (blit row 0xDEAD_0DC0 (record { x = pos 1; y = pos 0; w = pos 2; h = pos 1 }) 0xDEAD_0DC0 (record { x = pos 0; y = pos 0 }) 0x00CC_0020 .paint)
+    (memories (0xA1 ∷ 0xA0 ∷ 0xB1 ∷ 0xB0 ∷ 0xC1 ∷ 0xC0 ∷ []) (0 ∷ 0 ∷ []))
+    ≡ memories (0xA1 ∷ 0xA0 ∷ 0xA1 ∷ 0xA0 ∷ 0xB1 ∷ 0xB0 ∷ []) (0 ∷ 0 ∷ [])
+unfolding blit targetOf dcOf paintsOf after paintedBy painted written word applied packed
 row-moved-onto-itself = refl
 
 -- a fresh bench: a panel of 1 by 1, a store of 12 bytes

@@ -8,7 +8,8 @@ use lib.Dec.{ltb}
 use lib.ListN.{length}
 use borrow.Author.Tests.{leb-true, ltb-true, ltb-false, le-leb, lt-leb, eq-eqb, ne-eqb}
 use Rattle.laws.proofs.Test.{both, together}
-use Rattle.p6.specs.P6.{Picture, picture, isSpace, isDigit, first, pastSpace, whitespace, oneSpace, moreDigits, number, raster, read, digits, decimal, header, p6}
+use Rattle.p6.specs.P6.{digits, decimal, header, p6}
+use Rattle.p6.specs.Reader.{Picture, picture, isSpace, isDigit, first, pastSpace, whitespace, oneSpace, moreDigits, number, raster, read}
 
 digit-yes : (d : ℕ) → d < 10 → isDigit (48 + d) ≡ true
 digit-yes d h = together (le-leb 48 (48 + d) (omega arith)) (le-leb (48 + d) 57 (omega arith))

@@ -1,3 +1,4 @@
 pub mod P6
+pub mod Reader
 pub mod Joined
 pub mod Inner

@@ -7,12 +7,12 @@ use lib.ListN.{length, set, length-append}
 use Rattle.words.specs.Words.{word}
 use Rattle.color.specs.Color.{red, green, blue, wideRed, wideGreen, wideBlue, widened}
 use Rattle.color.proofs.Color.{red-widened, green-widened, blue-widened}
-use Rattle.p6.specs.P6.{ppmLength}
-use Rattle.samples.specs.Samples.{rgb, rgba, samplesOf, rgbaOf, ppmOf}
-use Rattle.p6.specs.P6.{header, picture, read}
+use Rattle.p6.specs.P6.{header, ppmLength}
+use Rattle.p6.specs.Reader.{picture, read}
 use Rattle.p6.specs.Inner.{put}
 use Rattle.p6.proofs.P6.{read-back}
 use Rattle.p6.proofs.Put.{stored, stored-behind, length-joined}
+use Rattle.samples.specs.Samples.{rgb, rgba, samplesOf, rgbaOf, ppmOf}
 
 -- three bytes stored, and four
 put-three : (m : List ℕ) (p x y z : ℕ) → p + 2 < length m → set (set (set m p x) (p + 1) y) (p + 2) z ≡ put m p (x ∷ y ∷ z ∷ [])

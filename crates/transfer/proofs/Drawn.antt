@@ -8,7 +8,7 @@ use native.Mathlib.Nat.{mul-le-mul-right, mul-comm}
 use native.Mathlib.Omega.{arith}
 use lib.IntN.{ℤ, pos, negsuc}
 use lib.ListN.{length, drop, take-append-drop}
-use lib.Seq.{getD-take, getD-drop, drop-drop}
+use lib.Seq.{drop-drop}
 use lib.Signed.{leZ}
 use borrow.Author.Tests.{le-ltb}
 use borrow.Rule.Slice.PartMut.{putMid}
@@ -19,7 +19,7 @@ use Rattle.laws.proofs.Test.{both, not-left, not-right}
 use Rattle.words.specs.Words.{word}
 use Rattle.words.specs.Parts.{part, withPart}
 use Rattle.words.proofs.Painted.{painted-same, painted-none}
-use Rattle.words.proofs.Parts.{length-part, part-painted}
+use Rattle.words.proofs.Parts.{length-part, word-part, part-painted}
 use Rattle.rop3.specs.Rop3.{applied}
 use Rattle.clip.specs.Clip.{covers}
 use Rattle.clip_blit.specs.Blit.{sourceAt, inside, drawn, drawnAt}
@@ -34,21 +34,6 @@ use Rattle.plan.specs.declared.Area.{Area}
 use Rattle.plan.specs.declared.Point.{Point}
 use Rattle.transfer.specs.Inner.{Side, blitPart}
 use Rattle.transfer.proofs.Numbers.{numbers}
-
--- a word of a part
-word-part : (m : List ℕ) (a n j : ℕ) → j < n → word (part m (2 * a) (2 * n)) j ≡ word m (a + j)
-unfolding word
-word-part m a n j lt =
-    let low : 2 * a + 2 * j ≡ 2 * (a + j) = omega arith in
-    let high : 2 * a + (2 * j + 1) ≡ 2 * (a + j) + 1 = omega arith in
-    rw (
-      getD-take (2 * n) (drop (2 * a) m) (2 * j) 0 (omega arith),
-      getD-take (2 * n) (drop (2 * a) m) (2 * j + 1) 0 (omega arith),
-      getD-drop (2 * a) m (2 * j) 0,
-      getD-drop (2 * a) m (2 * j + 1) 0,
-      low,
-      high,
-    )
 
 module _ (W H : ℕ) (a : Area) (f : Point) (SW SH t c : ℕ) where
   abbrev B : Blit

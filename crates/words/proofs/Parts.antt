@@ -10,11 +10,26 @@ use lib.Seq.{take-at, drop-at, getD-take, getD-drop, getD-append-add, ext-getD, 
 use Rattle.laws.specs.Interval.{between}
 use Rattle.laws.proofs.Interval.{between-yes, between-no}
 use Rattle.words.specs.Parts.{part, withPart}
-use Rattle.words.specs.Words.{painted, byteOf}
+use Rattle.words.specs.Words.{painted, word, byteOf}
 use Rattle.words.proofs.Painted.{length-painted, painted-at, is-painted}
 
 pub length-part : (m : List ℕ) (p n : ℕ) → p + n ≤ length m → length (part m p n) ≡ n
 length-part m p n h = simp (length-take, length-drop) (omega arith)
+
+-- a word of a part
+pub word-part : (m : List ℕ) (a n j : ℕ) → j < n → word (part m (2 * a) (2 * n)) j ≡ word m (a + j)
+unfolding word
+word-part m a n j lt =
+    let low : 2 * a + 2 * j ≡ 2 * (a + j) = omega arith in
+    let high : 2 * a + (2 * j + 1) ≡ 2 * (a + j) + 1 = omega arith in
+    rw (
+      getD-take (2 * n) (drop (2 * a) m) (2 * j) 0 (omega arith),
+      getD-take (2 * n) (drop (2 * a) m) (2 * j + 1) 0 (omega arith),
+      getD-drop (2 * a) m (2 * j) 0,
+      getD-drop (2 * a) m (2 * j + 1) 0,
+      low,
+      high,
+    )
 
 -- the bytes of the whole, before the part, in it and behind it
 module _ (m xs : List ℕ) (p n : ℕ) (len : length xs ≡ n) (fits : p + n ≤ length m) where

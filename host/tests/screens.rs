@@ -1,0 +1,159 @@
+//! What a device shows does not depend on what its memories held before it was
+//! opened, nor on pixels that were painted over.
+
+mod random;
+
+use random::Random;
+use ravinefork::snapshot::{ppm_len, rgba8888_len};
+use ravinefork::{call, Handle, HostCall, Record, Refusal, Reply, RECORD};
+
+/// Rounds, and calls in each.
+const ROUNDS: u32 = 300;
+const CALLS: u32 = 80;
+
+/// What a caller keeps.
+#[derive(Clone)]
+struct Lending {
+    record: Record,
+    panel: Vec<u8>,
+    store: Vec<u8>,
+}
+
+impl Lending {
+    /// Numbers and memories of these lengths that hold anything.
+    fn anything(random: &mut Random, panel_len: usize, store_len: usize) -> Lending {
+        let numbers: Vec<u32> = (0..RECORD).map(|_| random.number()).collect();
+        Lending {
+            record: Record::from_numbers(numbers),
+            panel: bytes(random, panel_len),
+            store: bytes(random, store_len),
+        }
+    }
+
+    fn open(&mut self, width: u32, height: u32) -> Result<(), Refusal> {
+        self.record.open(width, height, &mut self.panel, &mut self.store)
+    }
+
+    fn perform(&mut self, host: &HostCall, units: &[u16]) -> Reply {
+        self.record.perform(host, units, &mut self.panel, &mut self.store)
+    }
+
+    /// Both snapshots, written over what the outputs hold.
+    fn snapshots(&self, random: &mut Random) -> Result<(Vec<u8>, Vec<u8>), Refusal> {
+        let (width, height) = (self.record.width(), self.record.height());
+        let mut rgba = bytes(random, rgba8888_len(width, height));
+        let mut ppm = bytes(random, ppm_len(width, height));
+        self.record.snapshot_rgba8888_into(&self.panel, &mut rgba)?;
+        self.record.snapshot_ppm_into(&self.panel, &mut ppm)?;
+        Ok((rgba, ppm))
+    }
+
+    /// The pixels of the stock bitmap and of every created one, by handle.
+    fn bitmaps(&self) -> Vec<(u32, Vec<u8>)> {
+        let created = self.record.slots().map(|slot| slot.handle);
+        let all = std::iter::once(Handle::STOCK_DEFAULT_BITMAP).chain(created);
+        let pixels = |handle| Some(self.store[self.record.bitmap_place(handle)?].to_vec());
+        all.filter_map(|handle| Some((handle.0, pixels(handle)?))).collect()
+    }
+}
+
+fn bytes(random: &mut Random, count: usize) -> Vec<u8> {
+    (0..count).map(|_| random.below(256) as u8).collect()
+}
+
+/// A call: now and then a bitmap that is selected and drawn on, else any.
+fn next_call(random: &mut Random) -> (HostCall, Vec<u16>) {
+    let base = Handle::GDI_HANDLE_BASE.0;
+    let mut host = random.call();
+    match random.below(5) {
+        0 => {
+            host.call = call::CREATE_COMPATIBLE_BITMAP;
+            (host.a, host.b) = (random.below(12), random.below(12));
+        }
+        1 => {
+            host.call = call::SELECT_INTO;
+            (host.dc, host.a) = (base, base + random.below(9));
+        }
+        _ => {}
+    }
+    let units = (0..random.below(9)).map(|_| random.below(160) as u16).collect();
+    (host, units)
+}
+
+#[test]
+fn whatever_the_memories_held() {
+    let mut random = Random::new(16);
+    let (mut opened, mut accepted, mut pictures, mut created) = (0, 0, 0, 0);
+    for _ in 0..ROUNDS {
+        let (width, height) = (random.below(30), 1 + random.below(30));
+        let panel_len = (2 * width * height + random.below(40)) as usize;
+        let store_len = random.below(3000) as usize;
+        let mut one = Lending::anything(&mut random, panel_len, store_len);
+        let mut other = Lending::anything(&mut random, panel_len, store_len);
+        let number = one.open(width, height);
+        assert_eq!(number, other.open(width, height));
+        opened += u32::from(number.is_ok());
+        for _ in 0..CALLS {
+            let (host, units) = next_call(&mut random);
+            let reply = one.perform(&host, &units);
+            assert_eq!(reply, other.perform(&host, &units), "{host:?}");
+            accepted += u32::from(reply.refusal == 0);
+            // Records are equal; numbers past the last object are what they were.
+            assert!(one.record.slots().eq(other.record.slots()), "{host:?}");
+            assert_eq!(one.record.screen(), other.record.screen());
+            assert_eq!(one.record.frame_counter(), other.record.frame_counter());
+            // A refused open leaves no device, and so no pixels.
+            assert!(number.is_err() || one.bitmaps() == other.bitmaps(), "{host:?}");
+            let picture = one.snapshots(&mut random);
+            assert_eq!(picture, other.snapshots(&mut random), "{host:?}");
+            pictures +=
+                u32::from(picture.is_ok_and(|(rgba, _)| rgba.iter().any(|&b| b != 0 && b != 255)));
+        }
+        created += one.bitmaps().len() - 1;
+    }
+    println!("{opened} opened, {accepted} calls accepted, {pictures} pictures with a colour, {created} bitmaps");
+    assert!(opened < ROUNDS && opened > ROUNDS / 2, "{opened}");
+    assert!(
+        accepted > ROUNDS * CALLS / 3 && pictures > ROUNDS * CALLS / 4 && created > 500,
+        "{accepted}, {pictures}, {created}"
+    );
+}
+
+#[test]
+fn a_panel_painted_over() {
+    let mut random = Random::new(61);
+    let mut differed = 0;
+    for _ in 0..ROUNDS {
+        let (width, height) = (1 + random.below(30), 1 + random.below(30));
+        let size = (2 * width * height) as usize;
+        let mut one = Lending::anything(&mut random, size, 64);
+        one.open(width, height).expect("a device");
+        let mut other = one.clone();
+        // Equal but for pixels of the panel.
+        for byte in 0..size {
+            one.panel[byte] = random.below(256) as u8;
+            other.panel[byte] = random.below(256) as u8;
+        }
+        // Calls that read the panel leave pixels of it that differ; a fill, and none is left.
+        for _ in 0..4 {
+            let host = HostCall {
+                dc: Handle::GDI_SCREEN_DC.0,
+                src: Handle::GDI_SCREEN_DC.0,
+                call: call::BLIT,
+                ..random.call()
+            };
+            assert_eq!(one.perform(&host, &[]), other.perform(&host, &[]), "{host:?}");
+        }
+        differed += u32::from(one.snapshots(&mut random) != other.snapshots(&mut random));
+        let fill =
+            HostCall { call: call::PANEL_FILL, a: random.below(0x1_0000), ..HostCall::default() };
+        assert_eq!(one.perform(&fill, &[]), other.perform(&fill, &[]));
+        for _ in 0..CALLS / 4 {
+            let (host, units) = next_call(&mut random);
+            assert_eq!(one.perform(&host, &units), other.perform(&host, &units), "{host:?}");
+            assert_eq!(one.snapshots(&mut random), other.snapshots(&mut random), "{host:?}");
+        }
+        assert_eq!(one.record.as_numbers(), other.record.as_numbers());
+    }
+    assert!(differed > ROUNDS * 9 / 10, "{differed}");
+}
