@@ -110,7 +110,7 @@ module _ {w h : ℕ} {s t : Lending} {n : ℕ} (o : Opened w h (s .numbers) (s .
       by true e = absurd (ne (ap length (sym (o .kept ne)) ∙ record-length (t .numbers) e))
       by false e = refl
 
-  -- an open leaves a device where calls are looked at, or one that refuses every call with 9
+  -- an open leaves a ready device, or one that refuses every call with 9
   pub opened-settled : Settled t
   opened-settled = by (ℕ-discrete (length (s .numbers)) recordSize)
     where

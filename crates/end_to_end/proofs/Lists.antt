@@ -124,7 +124,7 @@ module _ (e : Entry) (law : Lawful e) where
   made-numbers l n (call {c = c} {s = s} {t = s′} {a = a} x xs) (call {s = t} {t = t′} {a = b} y ys) =
       made-numbers (step-linked l x y) (law .numbers c s t s′ t′ a b (same-record l) n x y) xs ys
 
-  -- where calls are looked at, they are after every list
+  -- a ready device is ready after every list
   pub made-looks : {cs : List (e .Argument)} {s t : Lending} {rs : List (e .Answer)} → refusesEvery s ≡ 0 → Made e cs s rs t → refusesEvery t ≡ 0
   made-looks {cs} {s} z xs =
       let f = served-record s z in
@@ -138,7 +138,7 @@ module _ (e : Entry) (law : Lawful e) where
             let l = linked-of q in
             let (answers, k) = made-linked l xs ys in
             (answers, equal-of (made-numbers l (q .numbers) xs ys) k);
-        looks = λ cs s s′ rs z xs. made-looks z xs;
+        stays-ready = λ cs s s′ rs z xs. made-looks z xs;
         refuses = λ cs s s′ rs ne xs. made-refused ne xs;
       }
 

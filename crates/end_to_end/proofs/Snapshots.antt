@@ -65,7 +65,7 @@ module _ {m : Marks} {s t : Lending} (l : Linked m s t) where
   views : isRecord (s .numbers) ≡ true → view (s .numbers) ≡ view (t .numbers)
   views e = l .agree e .states
 
-  -- calls are looked at, and no pixel of the panel is marked
+  -- the device is ready, and no pixel of the panel is marked
   module _ (served : refusesEvery s ≡ 0) (clear : (x y : ℕ) → isPixelOf s Panel x y ≡ true → m Panel x y → ⊥) where
     is-record : isRecord (s .numbers) ≡ true
     is-record = served-record s served
@@ -127,7 +127,7 @@ nine-refused s got wanted = by (isRecord (s .numbers)) (isSound (view (s .number
     by true false p q e z = omega (arith, z)
     by false t p q e z = omega (arith, z)
 
--- Calls are looked at, or the record is refused with 9: not one of a store of another length, whose panel is a snapshot's all the same.
+-- The device is ready, or refuses every call with 9. One that refuses with 8 for the length of its store can still be saved.
 abbrev pub Settled : Lending → Type 0
 Settled s = (refusesEvery s ≡ 0) ⊎ (refusesEvery s ≡ 9)
 
@@ -135,18 +135,18 @@ module _ {m : Marks} {s t : Lending} (l : Linked m s t) (settled : Settled s) (c
   pub same-snapshots : SameSnapshots f s t
   same-snapshots =
       record {
-        numbers = λ out₁ out₂ out₁′ out₂′ n k long x y. x .answer ∙ number-same l out₁ out₂ long (f .wanted) ∙ sym (y .answer);
-        bytes = λ out₁ out₂ out₁′ out₂′ n k long x y z. by settled out₁ out₂ out₁′ out₂′ n k long x y z;
+        same = λ out₁ out₂ out₁′ out₂′ n k long x y.
+            let numbers : n ≡ k = x .answer ∙ number-same l out₁ out₂ long (f .wanted) ∙ sym (y .answer) in
+            (numbers, λ z. by settled x y z (sym numbers ∙ z));
       }
     where
-      by : Settled s → (out₁ out₂ out₁′ out₂′ : List ℕ) (n k : ℕ) → length out₁ ≡ length out₂ → Snapped f (s .numbers) (s .memories .panel) out₁ n out₁′
-          → Snapped f (t .numbers) (t .memories .panel) out₂ k out₂′ → n ≡ 0 → out₁′ ≡ out₂′
-      by (inl served) out₁ out₂ out₁′ out₂′ n k long x y z =
-          let w = view (s .numbers) .width in
-          let h = view (s .numbers) .height in
-          let z′ : k ≡ 0 = y .answer ∙ sym (number-same l out₁ out₂ long (f .wanted)) ∙ sym (x .answer) ∙ z in
-          let made : out₁′ ≡ f .picture w h (s .memories .panel) = x .bytes ∙ rw (eq-eqb n 0 z) in
-          let made′ : out₂′ ≡ f .picture (view (t .numbers) .width) (view (t .numbers) .height) (t .memories .panel) = y .bytes ∙ rw (eq-eqb k 0 z′) in
-          made ∙ picture-same saves w h (s .memories .panel) (t .memories .panel) (panel-words l served clear)
-          ∙ ap (λ (b : GdiState). f .picture (b .width) (b .height) (t .memories .panel)) (views l (served-record s served)) ∙ sym made′
-      by (inr nine) out₁ out₂ out₁′ out₂′ n k long x y z = absurd (nine-refused s (length out₁) (f .wanted) nine (sym (x .answer) ∙ z))
+      by : Settled s → {out₁ out₂ out₁′ out₂′ : List ℕ} {n k : ℕ} → Snapped f (s .numbers) (s .memories .panel) out₁ n out₁′
+          → Snapped f (t .numbers) (t .memories .panel) out₂ k out₂′ → n ≡ 0 → k ≡ 0 → out₁′ ≡ out₂′
+      by (inl served) {n = n} {k = k} x y z z′ =
+          let b = view (s .numbers) in
+          let same : f .picture (b .width) (b .height) (s .memories .panel) ≡ f .picture (view (t .numbers) .width) (view (t .numbers) .height) (t .memories .panel) =
+          picture-same saves (b .width) (b .height) (s .memories .panel) (t .memories .panel) (panel-words l served clear)
+          ∙ ap (λ (c : GdiState). f .picture (c .width) (c .height) (t .memories .panel)) (views l (served-record s served))
+          in
+          rw (x .bytes, y .bytes, eq-eqb n 0 z, eq-eqb k 0 z′) same
+      by (inr nine) {out₁ = out₁} x y z z′ = absurd (nine-refused s (length out₁) (f .wanted) nine (sym (x .answer) ∙ z))

@@ -24,7 +24,7 @@ use Rattle.host_call.specs.Call.{callOf}
 use Rattle.host_reply.specs.declared.Reply.{Reply}
 use Rattle.host.specs.Host.{HostPerformed}
 
--- What a caller keeps, and lends with each call: the record as numbers, and the two memories.
+-- What a caller keeps and lends with each call: the record as numbers, and the two memories.
 pub record Lending : Type 0 where
   pub numbers : List ℕ
   pub memories : Memories
@@ -33,11 +33,11 @@ pub record Lending : Type 0 where
 abbrev pub deviceOf : Lending → Device
 deviceOf s = device (view (s .numbers)) (s .memories)
 
--- 9 or 8, with which every call is refused; 0 if calls are looked at
+-- 9 or 8, with which every call is refused; 0 if the device is ready
 abbrev pub refusesEvery : Lending → ℕ
 refusesEvery s = commonRefusalOn (s .numbers) (length (s .memories .panel)) (length (s .memories .store))
 
--- a pixel; where every call is refused there is none
+-- a pixel of the device; one that refuses every call has none
 abbrev pub isPixelOf : Lending → SurfaceId → (x y : ℕ) → Bool
 isPixelOf s u x y = eqb (refusesEvery s) 0 && inside (whereIs (view (s .numbers)) u) x y
 
@@ -51,8 +51,8 @@ pub record EqualBut (m : Marks) (s t : Lending) : Type 0 where
   pub stores : length (s .memories .store) ≡ length (t .memories .store)
   pub pixels : (u : SurfaceId) (x y : ℕ) → isPixelOf s u x y ≡ true → (m u x y → ⊥) → colourOf s u x y ≡ colourOf t u x y
 
--- A function through which calls are made: what it is passed, what it answers, what it promises of both with what was lent before
--- and after, and the calls that it is passed, one or none.
+-- A function through which calls are made: its argument, its answer, what its contract promises of the two and of what was lent,
+-- before and after, and which calls an argument is, one or none.
 pub record Entry : Type 1 where
   pub Argument : Type 0
   pub Answer : Type 0
@@ -63,7 +63,7 @@ pub record Entry : Type 1 where
 pub record Words32 (l : List ℕ) : Type 0 where
   pub below : (k : ℕ) → at l k < 2 ^ 32
 
--- `perform` promises its contract; the numbers are a slice of `u32`.
+-- `perform` promises its contract, which takes the answer by number and values; the numbers are a slice of `u32`.
 pub record PerformPromises (c : Invocation) (s : Lending) (a : Parts) (t : Lending) : Type 0 where
   pub performed : Performed (c .call) (c .units) (s .numbers) (s .memories) a (t .numbers) (t .memories)
   pub words : Words32 (t .numbers)
@@ -83,7 +83,7 @@ pub record HostPromises (c : HostInvocation) (s : Lending) (r : Reply) (t : Lend
   pub fields : Words32 (r .fields)
   pub fields-length : length (r .fields) ≡ objectSize
 
--- numbers that are no call are none
+-- the calls that an argument is: numbers that are no call are none
 abbrev pub callsRead : CallRead → (units : List ℕ) → List Invocation
 callsRead NoCall us = []
 callsRead (Is c) us = record { call = c; units = us } ∷ []
@@ -97,17 +97,17 @@ pub data Made (e : Entry) : List (e .Argument) → Lending → List (e .Answer) 
   call : {c : e .Argument} {cs : List (e .Argument)} {s t u : Lending} {a : e .Answer} {rs : List (e .Answer)}
       → e .Promises c s a t → Made e cs t rs u → Made e (c ∷ cs) s (a ∷ rs) u
 
--- the calls among what was passed
+-- the calls of a list of arguments
 unfoldable pub callsOf : (e : Entry) → List (e .Argument) → List Invocation
 callsOf e [] = []
 callsOf e (c ∷ cs) = e .calls c ++ callsOf e cs
 
 pub record ListsAgree (e : Entry) : Type 1 where
-  -- Two are equal but for marked pixels, whatever their numbers and memories are, and the same list of calls is made on both: all
+  -- Two callers lend the same but for marked pixels, whatever the numbers and memories are, and make the same list of calls: all
   -- answers are equal, and afterwards all numbers and every pixel left unmarked.
   pub lists : (cs : List (e .Argument)) (m : Marks) (s t s′ t′ : Lending) (rs qs : List (e .Answer))
       → EqualBut m s t → Made e cs s rs s′ → Made e cs t qs t′ → (rs ≡ qs) × EqualBut (marksOf (callsOf e cs) (deviceOf s) m) s′ t′
-  -- Where calls are looked at, they are after every list, so that the pixels do not go away.
-  pub looks : (cs : List (e .Argument)) (s s′ : Lending) (rs : List (e .Answer)) → refusesEvery s ≡ 0 → Made e cs s rs s′ → refusesEvery s′ ≡ 0
-  -- Where every call is refused, every number and every byte is as it was.
+  -- A ready device is ready after every list, so that the pixels do not go away.
+  pub stays-ready : (cs : List (e .Argument)) (s s′ : Lending) (rs : List (e .Answer)) → refusesEvery s ≡ 0 → Made e cs s rs s′ → refusesEvery s′ ≡ 0
+  -- A device that refuses every call keeps every number and every byte.
   pub refuses : (cs : List (e .Argument)) (s s′ : Lending) (rs : List (e .Answer)) → (refusesEvery s ≡ 0 → ⊥) → Made e cs s rs s′ → s′ ≡ s

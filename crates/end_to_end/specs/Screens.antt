@@ -13,12 +13,10 @@ use Rattle.noninterference.specs.Claim.{marksOf}
 use Rattle.snapshot.specs.Snapshot.{Format, rgba8888, ppm, Snapped}
 use Rattle.end_to_end.specs.Lists.{Lending, deviceOf, refusesEvery, isPixelOf, colourOf, EqualBut, Entry, Made, callsOf}
 
--- Snapshots of both, into outputs of equal lengths that hold anything: the same number, and if it is 0 the same bytes.
+-- Snapshots of both, into outputs of equal lengths that hold anything: the same number; if it is 0, the same bytes.
 pub record SameSnapshots (f : Format) (s t : Lending) : Type 0 where
-  pub numbers : (out₁ out₂ out₁′ out₂′ : List ℕ) (n k : ℕ) → length out₁ ≡ length out₂
-      → Snapped f (s .numbers) (s .memories .panel) out₁ n out₁′ → Snapped f (t .numbers) (t .memories .panel) out₂ k out₂′ → n ≡ k
-  pub bytes : (out₁ out₂ out₁′ out₂′ : List ℕ) (n k : ℕ) → length out₁ ≡ length out₂
-      → Snapped f (s .numbers) (s .memories .panel) out₁ n out₁′ → Snapped f (t .numbers) (t .memories .panel) out₂ k out₂′ → n ≡ 0 → out₁′ ≡ out₂′
+  pub same : (out₁ out₂ out₁′ out₂′ : List ℕ) (n k : ℕ) → length out₁ ≡ length out₂ → Snapped f (s .numbers) (s .memories .panel) out₁ n out₁′
+      → Snapped f (t .numbers) (t .memories .panel) out₂ k out₂′ → (n ≡ k) × (n ≡ 0 → out₁′ ≡ out₂′)
 
 -- the formats in which a screen is saved
 pub data Saves : Format → Type 0 where
@@ -64,10 +62,10 @@ pub record ScreensAgree (e : Entry) : Type 1 where
   -- list of calls is made on both: all answers are equal, every pixel is, and both snapshots are the same bytes.
   pub sessions : (w h : ℕ) (cs : List (e .Argument)) (s t s′ t′ : Lending) (n k : ℕ) (rs qs : List (e .Answer))
       → EqualLengths s t → Session e w h cs s n rs s′ → Session e w h cs t k qs t′ → SameSession n k rs qs s′ t′
-  -- So at every point of a list: it is the end of the list up to it.
+  -- So it is at every point of the list: a point is the end of the list up to it.
   pub points : (cs ds : List (e .Argument)) (s t : Lending) (rs : List (e .Answer)) → Made e (cs ++ ds) s rs t → Between e cs ds s rs t
-  -- Two are equal but for marked pixels, and calls are looked at. Where no pixel of the panel is marked after a list, both
-  -- snapshots are the same, whatever the marked pixels held.
+  -- Two callers lend ready devices that are the same but for marked pixels, and make the same list of calls. If no pixel of the
+  -- panel is marked afterwards, a snapshot is the same on both, whatever the marked pixels held.
   pub unmarked : (f : Format) → Saves f → (cs : List (e .Argument)) (m : Marks) (s t s′ t′ : Lending) (rs qs : List (e .Answer))
       → EqualBut m s t → refusesEvery s ≡ 0 → Made e cs s rs s′ → Made e cs t qs t′
       → ((x y : ℕ) → isPixelOf s′ Panel x y ≡ true → marksOf (callsOf e cs) (deviceOf s) m Panel x y → ⊥) → SameSnapshots f s′ t′

@@ -1,7 +1,7 @@
--- What the plan of a call can be, and that each call's is. A law of all calls is proved by these five cases. Assumes nothing.
+-- What the plan of a call can be, and that each call's is. A law of all calls is proved by these four cases. Assumes nothing.
 use mathlib.Core.Bool.{Bool, true, false, cond, _||_}
 use mathlib.Core.List.{List, [], _∷_}
-use mathlib.Core.Path.{_≡_, refl}
+use mathlib.Core.Path.{_≡_, refl, sym, _∙_}
 use Prim.Native.Nat.{ℕ, _+_, _≤_, _<_}
 use native.Mathlib.Omega.{arith}
 use lib.Dec.{leb, ltb}
@@ -16,16 +16,28 @@ use Rattle.gdi.specs.declared.GdiObject.{GdiObject}
 use Rattle.gdi.specs.declared.Found.{Found}
 use Rattle.gdi.specs.declared.Found.the-variants.{At as FoundAt, Nothing}
 use Rattle.gdi.specs.Record.{size, bytesOf}
+use Rattle.gdi.specs.Updates.{withSides}
 use Rattle.gdi.specs.Stock.{isStock}
 use Rattle.gdi.specs.Lookup.{findOf}
-use Rattle.sound.specs.Sound.{objectFits, used}
+use Rattle.sound.specs.Sound.{objectFits, used, isSound}
+use Rattle.sound.proofs.Sound.{parts, whole}
+use Rattle.ready.proofs.Ready.{Ready}
+use Rattle.place.specs.declared.Memory.{Memory}
+use Rattle.place.specs.declared.Memory.the-variants.{Panel as PanelMemory, Store}
 use Rattle.place.specs.declared.Place.{Place}
 use Rattle.place.specs.declared.Place.the-variants.{Nowhere, At}
 use Rattle.place.specs.declared.SurfaceId.{SurfaceId}
-use Rattle.place.specs.Place.{whereIs}
+use Rattle.place.specs.declared.SurfaceId.the-variants.{Panel, Bitmap}
+use Rattle.place.specs.Place.{whereIs, lengthOf}
 use Rattle.place.proofs.Same.{still-same}
+use Rattle.dirty.specs.Dirty.{dirtied}
+use Rattle.dirty.proofs.Still.{dirtied-still}
+use Rattle.handles.specs.Handles.{added}
+use Rattle.handles.proofs.Added.{added-sound}
 use Rattle.paint.specs.Memories.{widthOf, heightOf, inside}
+use Rattle.paint.specs.Paint.{blank, only}
 use Rattle.paint.proofs.Draws.{Sourced}
+use Rattle.paint.proofs.Blanks.{Blanked, new-blanked, sized-blanked}
 use Rattle.plan.specs.declared.Area.{Area}
 use Rattle.plan.specs.declared.Point.{Point}
 use Rattle.plan.specs.declared.Call.{Call}
@@ -47,14 +59,20 @@ abbrev pub AllSourced : GdiState → List Stroke → Type 0
 AllSourced b [] = Unit
 AllSourced b (s ∷ ss) = Sourced b (s .drawing) × AllSourced b ss
 
--- Nothing is painted, and every surface stays in its place; strokes are made; an object is new; a created object goes; the panel
--- has a new size.
+-- Bytes of a memory are blanked, on the way from the record b to the record b′: they are inside the memory, each surface that is
+-- cleared lies among them afterwards, every other lies off them and where it was, and b′ is ready where b was.
+pub record Blanks (b b′ : GdiState) (k : Memory) (p n : ℕ) (clears : SurfaceId → Bool) : Type 0 where
+  pub fits : p + n ≤ lengthOf (b .«panel_len») (b .«store_len») k
+  pub surfaces : isSound b ≡ true → (u : SurfaceId) → Blanked k p n (clears u) (whereIs b u) (whereIs b′ u)
+  pub ready : (panel-len store-len : ℕ) → Ready b panel-len store-len → Ready b′ panel-len store-len
+
+-- Nothing is painted, and every surface stays in its place; strokes are made; surfaces are new and black; a created object goes.
 pub data Shape (b : GdiState) : Plan → Type 0 where
   record-only : {p : Plan} → Unpainted b p → Shape b p
   strokes : (ss : List Stroke) (a : Parts) → AllSourced b ss → Shape b (drawnBy b ss a)
-  creation : (o : GdiObject) → objectFits o ≡ true → b .count < 256 → used b + bytesOf o ≤ b .«store_len» → Shape b (made b o)
+  blanks : (b′ : GdiState) (a : Parts) (k : Memory) (p n : ℕ) (clears : SurfaceId → Bool) → Blanks b b′ k p n clears
+      → Shape b (record { outcome = record { state = b′; answer = a }; paint = blank k p n clears ∷ [] })
   deletion : (gone : ℕ → Parts) (none : Parts) (h i : ℕ) → isStock h ≡ false → findOf b h ≡ FoundAt i → Shape b (goneAt gone none b h (FoundAt i))
-  resizing : (w h : ℕ) → side w ≡ true → side h ≡ true → size w h ≤ b .«panel_len» → Shape b (resized b w h)
 
 module _ (b : GdiState) where
   -- a refusal, or an answer alone
@@ -64,6 +82,15 @@ module _ (b : GdiState) where
   refused : (n : ℕ) → Shape b (refuse n b)
   refused n = unchanged _
 
+  -- an object more: its pixels are new and black
+  new-object : (o : GdiObject) → objectFits o ≡ true → b .count < 256 → used b + bytesOf o ≤ b .«store_len» → Shape b (made b o)
+  new-object o fits few room =
+      blanks (added b o) _ Store (used b) (bytesOf o) _ (record {
+        fits = room;
+        surfaces = new-blanked b o;
+        ready = λ m j r. record { sound = added-sound b o (r .sound) fits few room; panel = unfold added in r .panel; store = unfold added in r .store };
+      })
+
   create-shape : (o : GdiObject) → objectFits o ≡ true → Shape b (createOf b o)
   unfolding createOf
   create-shape o fits = by (leb 256 (b .count)) refl (ltb (b .«store_len») (used b + bytesOf o)) refl
@@ -71,7 +98,7 @@ module _ (b : GdiState) where
       by : (t : Bool) → leb 256 (b .count) ≡ t → (u : Bool) → ltb (b .«store_len») (used b + bytesOf o) ≡ u → Shape b (cond t (refuse 5 b) (cond u (refuse 7 b) (made b o)))
       by true e u f = refused 5
       by false e true f = refused 7
-      by false e false f = creation o fits (leb-false _ _ e) (ltb-false _ _ f)
+      by false e false f = new-object o fits (leb-false _ _ e) (ltb-false _ _ f)
 
   bitmap-shape : (w h : ℕ) → Shape b (createBitmap b w h)
   unfolding createBitmap
@@ -106,6 +133,36 @@ module _ (b : GdiState) where
       (λ s d. strokes _ _ ((λ x y e. refl), tt))
       (λ s d q. strokes _ _ (blit-sourced s q a p (tableOf rop) (packedOf (d .«brush_color»)), tt))
 
+  -- the panel at a new size, new and black
+  sized-sound : (w h : ℕ) → side w ≡ true → side h ≡ true → size w h ≤ b .«panel_len» → isSound b ≡ true → isSound (withSides b w h) ≡ true
+  sized-sound w h wide high fits s =
+      let p = parts b s in
+      whole (withSides b w h) (record {
+        panel-len = p .panel-len;
+        store-len = p .store-len;
+        count = p .count;
+        width = wide;
+        height = high;
+        panel = fits;
+        slots = p .slots;
+        apart = p .apart;
+        store = p .store;
+      })
+
+  resized-shape : (w h : ℕ) → side w ≡ true → side h ≡ true → size w h ≤ b .«panel_len» → Shape b (resized b w h)
+  resized-shape w h wide high fits =
+      let b′ : GdiState = dirtied (withSides b w h) Panel in
+      let s = dirtied-still (withSides b w h) Panel in
+      blanks b′ done PanelMemory 0 (size w h) (only Panel) (record {
+        fits = omega (arith, fits);
+        surfaces = λ z. sized-blanked b b′ w h (s .places Panel) (λ k. s .places (Bitmap k));
+        ready = λ m j r. record {
+          sound = s .sound (sized-sound w h wide high fits (r .sound));
+          panel = r .panel ∙ sym (s .panel-len);
+          store = r .store ∙ sym (s .store-len);
+        };
+      })
+
   -- a line for each call
   pub act-shape : (c : Call) (us : List ℕ) → Shape b (act c us b)
   unfolding act
@@ -125,5 +182,5 @@ module _ (b : GdiState) where
   act-shape (Rectangle dc a) us = rectangle-by (Shape b) b refused dc a (λ s d. strokes _ _ ((λ x y e. refl), ((λ x y e. refl), tt)))
   act-shape (Text dc at) us = text-by (Shape b) b refused us dc at (λ s d. strokes _ _ ((λ x y e. refl), tt))
   act-shape (PanelFill c) us = strokes (panelFillStroke (c .0) ∷ []) done ((λ x y e. refl), tt)
-  act-shape (Resize w h) us = resize-by (Shape b) b refused w h (unchanged _) (resizing w h)
+  act-shape (Resize w h) us = resize-by (Shape b) b refused w h (unchanged _) (resized-shape w h)
   act-shape (Blit dc a src from rop) us = blit-shape dc a src from rop

@@ -1,32 +1,19 @@
 -- Every call keeps the memories' lengths, and leaves a sound record if it found one. Assumes nothing.
-use mathlib.Core.Bool.{Bool, true}
 use mathlib.Core.List.{List, [], _∷_}
 use mathlib.Core.Path.{_≡_, refl, sym, _∙_, subst}
 use Prim.Native.Nat.{ℕ, _+_, _≤_}
-use native.Mathlib.Omega.{arith}
 use lib.ListN.{length}
-use Rattle.surface.specs.Refusal.{side}
 use Rattle.gdi.specs.declared.GdiState.{GdiState}
-use Rattle.gdi.specs.Record.{size, bytesOf}
-use Rattle.gdi.specs.Updates.{withSides}
 use Rattle.gdi.proofs.Scan.{found-count}
-use Rattle.sound.specs.Sound.{used, isSound}
-use Rattle.sound.proofs.Sound.{parts, whole}
 use Rattle.ready.proofs.Ready.{Ready}
 use Rattle.place.specs.declared.Memory.{Memory}
 use Rattle.place.specs.declared.Memory.the-variants.{Panel as PanelMemory, Store}
-use Rattle.place.specs.declared.SurfaceId.{SurfaceId}
-use Rattle.place.specs.declared.SurfaceId.the-variants.{Panel}
 use Rattle.place.specs.Place.{lengthOf}
 use Rattle.place.proofs.Same.{Still}
-use Rattle.dirty.specs.Dirty.{dirtied}
-use Rattle.dirty.proofs.Still.{dirtied-still}
-use Rattle.handles.specs.Handles.{added}
-use Rattle.handles.proofs.Added.{added-sound}
 use Rattle.removal.specs.Removal.{withoutAt}
 use Rattle.removal.proofs.Sound.{removed-sound}
 use Rattle.paint.specs.Memories.{Memories, memoryOf}
-use Rattle.paint.specs.Paint.{Paint, blank, after}
+use Rattle.paint.specs.Paint.{Paint, after}
 use Rattle.paint.proofs.Alike.{Looks}
 use Rattle.paint.proofs.Draws.{drawn-panel, drawn-store, drawn-looks}
 use Rattle.paint.proofs.Blanks.{blank-panel, blank-store}
@@ -34,9 +21,9 @@ use Rattle.paint.proofs.Closed.{closed-panel, closed-store}
 use Rattle.plan.specs.Plan.{Plan}
 use Rattle.plan.specs.Stroke.{Stroke, paintsOf}
 use Rattle.plan.proofs.Strokes.{dirtied-by-still}
-use Rattle.execution.proofs.Shape.{Shape, record-only, strokes, creation, deletion, resizing}
+use Rattle.execution.proofs.Shape.{Shape, record-only, strokes, blanks, deletion}
 
--- These paints keep the memories' lengths, and calls are looked at on the record b′ after them as on b before.
+-- These paints keep the memories' lengths, and the record b′ after them is ready where b is.
 pub record Steady (b : GdiState) (ps : List Paint) (b′ : GdiState) : Type 0 where
   pub panel : (ms : Memories) → Looks b ms → length (after b ps ms .panel) ≡ length (ms .panel)
   pub store : (ms : Memories) → Looks b ms → length (after b ps ms .store) ≡ length (ms .store)
@@ -72,33 +59,6 @@ memory-length b ms l Store = l .store
 pub range-fits : (b : GdiState) (ms : Memories) → Looks b ms → (k : Memory) (p n : ℕ) → p + n ≤ lengthOf (b .«panel_len») (b .«store_len») k → p + n ≤ length (memoryOf ms k)
 range-fits b ms l k p n fits = rw (memory-length b ms l k) fits
 
--- blanked bytes
-blank-steady : (b b′ : GdiState) (k : Memory) (p n : ℕ) (clears : SurfaceId → Bool) → p + n ≤ lengthOf (b .«panel_len») (b .«store_len») k
-    → ((m j : ℕ) → Ready b m j → Ready b′ m j) → Steady b (blank k p n clears ∷ []) b′
-unfolding after
-blank-steady b b′ k p n clears fits looks =
-    record {
-      panel = λ ms l. blank-panel b p n clears ms k (range-fits b ms l k p n fits);
-      store = λ ms l. blank-store b p n clears ms k (range-fits b ms l k p n fits);
-      looks = looks _ _;
-    }
-
--- the record with other panel sides
-sized-sound : (b : GdiState) (w h : ℕ) → side w ≡ true → side h ≡ true → size w h ≤ b .«panel_len» → isSound b ≡ true → isSound (withSides b w h) ≡ true
-sized-sound b w h wide high fits s =
-    let p = parts b s in
-    whole (withSides b w h) (record {
-      panel-len = p .panel-len;
-      store-len = p .store-len;
-      count = p .count;
-      width = wide;
-      height = high;
-      panel = fits;
-      slots = p .slots;
-      apart = p .apart;
-      store = p .store;
-    })
-
 -- a plan's paints and the record after it
 abbrev pub SteadyPlan : GdiState → Plan → Type 0
 SteadyPlan b p = Steady b (p .paint) (p .outcome .state)
@@ -106,16 +66,16 @@ SteadyPlan b p = Steady b (p .paint) (p .outcome .state)
 pub shape-steady : {b : GdiState} {p : Plan} → Shape b p → SteadyPlan b p
 shape-steady {b} {p} (record-only u) = subst (λ (ps : List Paint). Steady b ps (p .outcome .state)) (sym (u .paint)) (still-steady (u .still))
 shape-steady {b} (strokes ss a i) = and-strokes ss (dirtied-by-still ss b)
-shape-steady {b} (creation o fits few room) =
-    blank-steady b (added b o) Store (used b) (bytesOf o) _ room
-    (λ m j r. record { sound = added-sound b o (r .sound) fits few room; panel = unfold added in r .panel; store = unfold added in r .store })
+shape-steady {b} (blanks b′ a k p n clears x) =
+    unfold after in
+    record {
+      panel = λ ms l. blank-panel b p n clears ms k (range-fits b ms l k p n (x .fits));
+      store = λ ms l. blank-store b p n clears ms k (range-fits b ms l k p n (x .fits));
+      looks = x .ready _ _;
+    }
 shape-steady {b} (deletion gone none h i created found) =
     record {
       panel = λ ms l. closed-panel b h i found ms;
       store = closed-store b h i found;
       looks = λ r. record { sound = removed-sound b i (r .sound) (found-count b h found); panel = unfold withoutAt in r .panel; store = unfold withoutAt in r .store };
     }
-shape-steady {b} (resizing w h wide high fits) =
-    let s = dirtied-still (withSides b w h) Panel in
-    blank-steady b (dirtied (withSides b w h) Panel) PanelMemory 0 (size w h) _ (omega (arith, fits))
-    (λ m j r. record { sound = s .sound (sized-sound b w h wide high fits (r .sound)); panel = r .panel ∙ sym (s .panel-len); store = r .store ∙ sym (s .store-len) })

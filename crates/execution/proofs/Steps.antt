@@ -14,11 +14,11 @@ use Rattle.execution.specs.Execution.{Device, device, refusesAll, Invoca
 use Rattle.execution.proofs.Shape.{act-shape}
 use Rattle.execution.proofs.Steady.{shape-steady}
 
--- the plan of a call that is looked at, or refused
+-- the plan of a call on a device that is ready, or refuses every call
 abbrev chosen : Invocation → Device → Bool → Plan
 chosen c s t = cond t (act (c .call) (c .units) (s .state)) (refuse (refusesAll s) (s .state))
 
--- the memories' lengths, and that calls are looked at
+-- the memories' lengths are kept, and a ready device stays ready
 pub record Kept (s t : Device) : Type 0 where
   pub panel : length (t .memories .panel) ≡ length (s .memories .panel)
   pub store : length (t .memories .store) ≡ length (s .memories .store)

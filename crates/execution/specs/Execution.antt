@@ -22,7 +22,7 @@ pub record Device : Type 0 where
 abbrev pub device : GdiState → Memories → Device
 device b ms = record { state = b; memories = ms }
 
--- 9 or 8, with which it refuses every call; 0 if it looks at calls
+-- 9 or 8, with which it refuses every call; 0 if it is ready
 abbrev pub refusesAll : Device → ℕ
 refusesAll s = commonRefusal (s .state) (length (s .memories .panel)) (length (s .memories .store))
 

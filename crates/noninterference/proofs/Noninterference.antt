@@ -77,6 +77,6 @@ noninterference =
     record {
       answers = λ cs m s t a. run-agree cs m s t a .0;
       pixels = λ cs m s t a. run-agree cs m s t a .1;
-      looks = λ cs s. run-kept cs s .looked;
+      stays-ready = λ cs s. run-kept cs s .looked;
       refuses = run-refused;
     }

@@ -32,10 +32,10 @@ abbrev pub marksOf : List Invocation → Device → Marks → Marks
 marksOf cs s m = marksAfter cs (s .state) (length (s .memories .panel)) (length (s .memories .store)) m
 
 -- From any record and any memories: all answers are equal, and afterwards so are records, counters, dirty marks and every
--- pixel left unmarked. A device that looks at calls does so after every list of them, so that the pixels do not go away. One
--- that refuses every call keeps its record and every byte.
+-- pixel left unmarked. A ready device is ready after every list of calls, so that the pixels do not go away. One that refuses every
+-- call keeps its record and every byte.
 pub record Noninterference : Type 1 where
   pub answers : (cs : List Invocation) (m : Marks) (s t : Device) → Agree m s t → run cs s .0 ≡ run cs t .0
   pub pixels : (cs : List Invocation) (m : Marks) (s t : Device) → Agree m s t → Agree (marksOf cs s m) (run cs s .1) (run cs t .1)
-  pub looks : (cs : List Invocation) (s : Device) → refusesAll s ≡ 0 → refusesAll (run cs s .1) ≡ 0
+  pub stays-ready : (cs : List Invocation) (s : Device) → refusesAll s ≡ 0 → refusesAll (run cs s .1) ≡ 0
   pub refuses : (cs : List Invocation) (s : Device) → (refusesAll s ≡ 0 → ⊥) → run cs s .1 ≡ s
