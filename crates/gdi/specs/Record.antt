@@ -27,11 +27,8 @@ bytesOf (Brush x) = 0
 bytesOf (Pen x) = 0
 bytesOf (Font x) = 0
 
--- a record by its fields, in their order
-abbrev pub stateWith
-    : (panel-len store-len width height frame-counter next-handle : ℕ)
-    → (screen : Dc) (stock-dirty : Bool) (count : ℕ) (objects : List Slot)
-    → GdiState
+-- a record by its fields, in their order; updates are written with it
+abbrev pub stateWith : (panel-len store-len width height frame-counter next-handle : ℕ) → (screen : Dc) (stock-dirty : Bool) (count : ℕ) (objects : List Slot) → GdiState
 stateWith panel-len store-len width height frame-counter next-handle screen stock-dirty count objects =
     record {
       «panel_len» = panel-len;
@@ -46,11 +43,9 @@ stateWith panel-len store-len width height frame-counter next-handle screen stoc
       objects = objects;
     }
 
--- a DC by its fields, in their order
-abbrev pub dcWith
-    : (surface : DcSurface) (bitmap : SelectedBitmap) (brush pen font : ℕ)
-    → (brush-color pen-color text-color : Colorref) (text-align : ℕ) (bk-color : Colorref) (bk-transparent : Bool)
-    → Dc
+-- a DC by its fields, in their order; its updates are written with it
+abbrev pub dcWith : (surface : DcSurface) (bitmap : SelectedBitmap) (brush pen font : ℕ) → (brush-color pen-color text-color : Colorref)
+    → (text-align : ℕ) (bk-color : Colorref) (bk-transparent : Bool) → Dc
 dcWith surface bitmap brush pen font brush-color pen-color text-color text-align bk-color bk-transparent =
     record {
       surface = surface;
@@ -68,7 +63,20 @@ dcWith surface bitmap brush pen font brush-color pen-color text-color text-align
 
 -- the record of `Dc::default`, with the given surface
 abbrev pub dcOn : DcSurface → Dc
-dcOn s = dcWith s Unset 0xDEAD_5701 0xDEAD_5707 0xDEAD_5710 (record { 0 = 0x00ff_ffff }) (record { 0 = 0 }) (record { 0 = 0 }) 0 (record { 0 = 0x00ff_ffff }) false
+dcOn s =
+    record {
+      surface = s;
+      «selected_bitmap» = Unset;
+      «selected_brush» = 0xDEAD_5701;
+      «selected_pen» = 0xDEAD_5707;
+      «selected_font» = 0xDEAD_5710;
+      «brush_color» = record { 0 = 0x00ff_ffff };
+      «pen_color» = record { 0 = 0 };
+      «text_color» = record { 0 = 0 };
+      «text_align» = 0;
+      «bk_color» = record { 0 = 0x00ff_ffff };
+      «bk_transparent» = false;
+    }
 
 -- a new bitmap
 abbrev pub freshBitmap : (width height : ℕ) → Bitmap

@@ -17,7 +17,6 @@ use Rattle.gdi.specs.declared.Bitmap.{Bitmap as BitmapRecord}
 use Rattle.gdi.specs.declared.GdiObject.{GdiObject}
 use Rattle.gdi.specs.declared.GdiObject.the-variants.{Dc as DcOf, Bitmap, Brush, Pen, Font}
 use Rattle.gdi.specs.declared.Slot.{Slot}
-use Rattle.gdi.specs.Record.{dcWith}
 use Rattle.numbers.specs.Layout.{objectSize, handlePlace, kindPlace, objectPlace, surfaceIn, presentIn, bitmapIn, brushIn, penIn, fontIn, brushColorIn, penColorIn, textColorIn, textAlignIn, bkColorIn, bkTransparentIn, bitmapWidthIn, bitmapHeightIn, bitmapDirtyIn, colorIn, penWidthIn, fontHeightIn, bitmapSize, brushSize, penSize, fontSize}
 
 -- number k of a block
@@ -46,8 +45,19 @@ bitmapOf present h = cond (flagOf present) (Chosen h) Unset
 -- background colour, transparent.
 unfoldable pub dcOf : List ℕ → Dc
 dcOf l =
-    dcWith (surfaceOf (at l surfaceIn)) (bitmapOf (at l presentIn) (at l bitmapIn)) (at l brushIn) (at l penIn) (at l fontIn)
-    (record { 0 = at l brushColorIn }) (record { 0 = at l penColorIn }) (record { 0 = at l textColorIn }) (at l textAlignIn) (record { 0 = at l bkColorIn }) (flagOf (at l bkTransparentIn))
+    record {
+      surface = surfaceOf (at l surfaceIn);
+      «selected_bitmap» = bitmapOf (at l presentIn) (at l bitmapIn);
+      «selected_brush» = at l brushIn;
+      «selected_pen» = at l penIn;
+      «selected_font» = at l fontIn;
+      «brush_color» = record { 0 = at l brushColorIn };
+      «pen_color» = record { 0 = at l penColorIn };
+      «text_color» = record { 0 = at l textColorIn };
+      «text_align» = at l textAlignIn;
+      «bk_color» = record { 0 = at l bkColorIn };
+      «bk_transparent» = flagOf (at l bkTransparentIn);
+    }
 
 -- its flags are flags, and an absent bitmap has handle 0
 unfoldable pub isDc : List ℕ → Bool

@@ -9,7 +9,7 @@ use Rattle.laws.specs.Test.{allBelow}
 use Rattle.words.specs.Parts.{part}
 use Rattle.gdi.specs.declared.GdiState.{GdiState}
 use Rattle.gdi.specs.declared.Slot.{Slot}
-use Rattle.gdi.specs.Record.{stateWith, vacantSlot}
+use Rattle.gdi.specs.Record.{vacantSlot}
 use Rattle.numbers.specs.Layout.{dcSize, slotSize, recordSize, panelLenPlace, storeLenPlace, widthPlace, heightPlace, framesLowPlace, framesHighPlace, nextHandlePlace, stockDirtyPlace, countPlace, screenPlace, slotPlace}
 use Rattle.numbers.specs.Block.{at, flagOf, isFlag, dcOf, isDc, slotOf, isSlot}
 
@@ -29,8 +29,18 @@ tableOf l n = tableFrom (slotIn l n) 0 256
 -- half, next handle, the stock bitmap's dirty mark, count; the screen DC; the slots.
 unfoldable pub view : List ℕ → GdiState
 view l =
-    stateWith (at l panelLenPlace) (at l storeLenPlace) (at l widthPlace) (at l heightPlace) (at l framesLowPlace + 4294967296 * at l framesHighPlace)
-    (at l nextHandlePlace) (dcOf (part l screenPlace dcSize)) (flagOf (at l stockDirtyPlace)) (at l countPlace) (tableOf l (at l countPlace))
+    record {
+      «panel_len» = at l panelLenPlace;
+      «store_len» = at l storeLenPlace;
+      width = at l widthPlace;
+      height = at l heightPlace;
+      «frame_counter» = at l framesLowPlace + 4294967296 * at l framesHighPlace;
+      «next_handle» = at l nextHandlePlace;
+      screen = dcOf (part l screenPlace dcSize);
+      «stock_dirty» = flagOf (at l stockDirtyPlace);
+      count = at l countPlace;
+      objects = tableOf l (at l countPlace);
+    }
 
 -- Numbers are a record if they are as many as there have to be, the stock bitmap's mark is a flag, at most 256 objects are
 -- counted, and the screen DC and each object is one.
