@@ -11,19 +11,19 @@ use ravinefork::{call, Handle, HostCall, Record, Refusal, Reply, RECORD};
 const ROUNDS: u32 = 300;
 const CALLS: u32 = 80;
 
-/// What a caller keeps.
+/// A flat device: what a caller keeps.
 #[derive(Clone)]
-struct Lending {
+struct Flat {
     record: Record,
     panel: Vec<u8>,
     store: Vec<u8>,
 }
 
-impl Lending {
+impl Flat {
     /// Numbers and memories of these lengths that hold anything.
-    fn anything(random: &mut Random, panel_len: usize, store_len: usize) -> Lending {
+    fn anything(random: &mut Random, panel_len: usize, store_len: usize) -> Flat {
         let numbers: Vec<u32> = (0..RECORD).map(|_| random.number()).collect();
-        Lending {
+        Flat {
             record: Record::from_numbers(numbers),
             panel: bytes(random, panel_len),
             store: bytes(random, store_len),
@@ -88,8 +88,8 @@ fn whatever_the_memories_held() {
         let (width, height) = (random.below(30), 1 + random.below(30));
         let panel_len = (2 * width * height + random.below(40)) as usize;
         let store_len = random.below(3000) as usize;
-        let mut one = Lending::anything(&mut random, panel_len, store_len);
-        let mut other = Lending::anything(&mut random, panel_len, store_len);
+        let mut one = Flat::anything(&mut random, panel_len, store_len);
+        let mut other = Flat::anything(&mut random, panel_len, store_len);
         let number = one.open(width, height);
         assert_eq!(number, other.open(width, height));
         opened += u32::from(number.is_ok());
@@ -126,7 +126,7 @@ fn a_panel_painted_over() {
     for _ in 0..ROUNDS {
         let (width, height) = (1 + random.below(30), 1 + random.below(30));
         let size = (2 * width * height) as usize;
-        let mut one = Lending::anything(&mut random, size, 64);
+        let mut one = Flat::anything(&mut random, size, 64);
         one.open(width, height).expect("a device");
         let mut other = one.clone();
         // Equal but for pixels of the panel.

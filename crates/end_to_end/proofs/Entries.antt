@@ -25,14 +25,14 @@ use Rattle.host_call.specs.Call.{callOf}
 use Rattle.host_reply.specs.declared.Reply.{Reply}
 use Rattle.host_reply.specs.Reply.{Replied}
 use Rattle.host.specs.Host.{planRead}
-use Rattle.end_to_end.specs.Lists.{Lending, deviceOf, refusesEvery, Entry, Words32, PerformPromises, throughPerform, HostInvocation, HostPromises, callsRead, throughHost}
+use Rattle.end_to_end.specs.Lists.{FlatDevice, deviceOf, refusesAllOn, Entry, Words32, PerformPromises, throughPerform, HostInvocation, HostPromises, callsRead, throughHost}
 use Rattle.end_to_end.proofs.Replies.{reply-same}
 
-abbrev lending : List ℕ → Memories → Lending
-lending l ms = record { numbers = l; memories = ms }
+abbrev flat : List ℕ → Memories → FlatDevice
+flat l ms = record { numbers = l; memories = ms }
 
 -- Both are no record, or both are one and the same, lent with memories of equal lengths.
-pub data SameRecord (s t : Lending) : Type 0 where
+pub data SameRecord (s t : FlatDevice) : Type 0 where
   no-record : isRecord (s .numbers) ≡ false → isRecord (t .numbers) ≡ false → SameRecord s t
   record-of : isRecord (s .numbers) ≡ true → isRecord (t .numbers) ≡ true → view (s .numbers) ≡ view (t .numbers)
       → length (s .memories .panel) ≡ length (t .memories .panel) → length (s .memories .store) ≡ length (t .memories .store) → SameRecord s t
@@ -40,18 +40,18 @@ pub data SameRecord (s t : Lending) : Type 0 where
 -- What is asked of an entry. Where every call is refused, everything is as it was; calls on a record are made on the device that it
 -- is. The answer follows from the record and the lengths, and so do the numbers afterwards from those before.
 pub record Lawful (e : Entry) : Type 0 where
-  pub refuses : (c : e .Argument) (s t : Lending) (a : e .Answer) → (refusesEvery s ≡ 0 → ⊥) → e .Promises c s a t → t ≡ s
-  pub stays-record : (c : e .Argument) (s t : Lending) (a : e .Answer) → isRecord (s .numbers) ≡ true → e .Promises c s a t → isRecord (t .numbers) ≡ true
-  pub makes : (c : e .Argument) (s t : Lending) (a : e .Answer) → isRecord (s .numbers) ≡ true → e .Promises c s a t → deviceOf t ≡ run (e .calls c) (deviceOf s) .1
-  pub answers : (c : e .Argument) (s t s′ t′ : Lending) (a b : e .Answer) → SameRecord s t → e .Promises c s a s′ → e .Promises c t b t′ → a ≡ b
-  pub numbers : (c : e .Argument) (s t s′ t′ : Lending) (a b : e .Answer) → SameRecord s t → s .numbers ≡ t .numbers → e .Promises c s a s′ → e .Promises c t b t′
+  pub refuses : (c : e .Argument) (s t : FlatDevice) (a : e .Answer) → (refusesAllOn s ≡ 0 → ⊥) → e .Promises c s a t → t ≡ s
+  pub stays-record : (c : e .Argument) (s t : FlatDevice) (a : e .Answer) → isRecord (s .numbers) ≡ true → e .Promises c s a t → isRecord (t .numbers) ≡ true
+  pub makes : (c : e .Argument) (s t : FlatDevice) (a : e .Answer) → isRecord (s .numbers) ≡ true → e .Promises c s a t → deviceOf t ≡ run (e .calls c) (deviceOf s) .1
+  pub answers : (c : e .Argument) (s t s′ t′ : FlatDevice) (a b : e .Answer) → SameRecord s t → e .Promises c s a s′ → e .Promises c t b t′ → a ≡ b
+  pub numbers : (c : e .Argument) (s t s′ t′ : FlatDevice) (a b : e .Answer) → SameRecord s t → s .numbers ≡ t .numbers → e .Promises c s a s′ → e .Promises c t b t′
       → s′ .numbers ≡ t′ .numbers
 
 -- ---- a plan that was followed
 
 -- refused, everything is as it was
-followed-refused : {p : Plan} {s t : Lending} {a : Parts} → (a .number ≡ 0 → ⊥) → Followed p (s .numbers) (s .memories) a (t .numbers) (t .memories) → t ≡ s
-followed-refused ne f = ap₂ lending (f .kept ne .0) (f .kept ne .1)
+followed-refused : {p : Plan} {s t : FlatDevice} {a : Parts} → (a .number ≡ 0 → ⊥) → Followed p (s .numbers) (s .memories) a (t .numbers) (t .memories) → t ≡ s
+followed-refused ne f = ap₂ flat (f .kept ne .0) (f .kept ne .1)
 
 -- numbers that were a record are one
 followed-record : {p : Plan} {l l′ : List ℕ} {ms ms′ : Memories} {a : Parts} → isRecord l ≡ true → Followed p l ms a l′ ms′ → isRecord l′ ≡ true
@@ -85,31 +85,31 @@ refused-plan c l n k ne = by (isRecord l) ne
     by true ne = rw (ne-eqb (commonRefusal (view l) n k) 0 ne)
     by false ne = refl
 
-refused-answer : (c : Invocation) {s t : Lending} {a : Parts} → (refusesEvery s ≡ 0 → ⊥) → PerformPromises c s a t → a ≡ refused (refusesEvery s)
+refused-answer : (c : Invocation) {s t : FlatDevice} {a : Parts} → (refusesAllOn s ≡ 0 → ⊥) → PerformPromises c s a t → a ≡ refused (refusesAllOn s)
 refused-answer c {s} ne x = x .performed .answer ∙ ap (λ (p : Plan). p .outcome .answer) (refused-plan c (s .numbers) _ _ ne)
 
-pub no-record-refuses : (s : Lending) → isRecord (s .numbers) ≡ false → refusesEvery s ≡ 0 → ⊥
+pub no-record-refuses : (s : FlatDevice) → isRecord (s .numbers) ≡ false → refusesAllOn s ≡ 0 → ⊥
 no-record-refuses s e z = omega (arith, rw e at z)
 
-pub served-record : (s : Lending) → refusesEvery s ≡ 0 → isRecord (s .numbers) ≡ true
+pub served-record : (s : FlatDevice) → refusesAllOn s ≡ 0 → isRecord (s .numbers) ≡ true
 served-record s z = by (isRecord (s .numbers)) refl
   where
     by : (b : Bool) → isRecord (s .numbers) ≡ b → b ≡ true
     by true e = refl
     by false e = absurd (no-record-refuses s e z)
 
-no-record-answer : (c : Invocation) {s t : Lending} {a : Parts} → isRecord (s .numbers) ≡ false → PerformPromises c s a t → a ≡ refused 9
+no-record-answer : (c : Invocation) {s t : FlatDevice} {a : Parts} → isRecord (s .numbers) ≡ false → PerformPromises c s a t → a ≡ refused 9
 no-record-answer c {s} e x =
     refused-answer c (no-record-refuses s e) x ∙ rw e
 
-perform-refuses : (c : Invocation) (s t : Lending) (a : Parts) → (refusesEvery s ≡ 0 → ⊥) → PerformPromises c s a t → t ≡ s
+perform-refuses : (c : Invocation) (s t : FlatDevice) (a : Parts) → (refusesAllOn s ≡ 0 → ⊥) → PerformPromises c s a t → t ≡ s
 perform-refuses c s t a ne x = followed-refused (λ z. ne (sym (ap (λ (y : Parts). y .number) (refused-answer c ne x)) ∙ z)) (x .performed)
 
-perform-makes : (c : Invocation) (s t : Lending) (a : Parts) → isRecord (s .numbers) ≡ true → PerformPromises c s a t → deviceOf t ≡ run (c ∷ []) (deviceOf s) .1
+perform-makes : (c : Invocation) (s t : FlatDevice) (a : Parts) → isRecord (s .numbers) ≡ true → PerformPromises c s a t → deviceOf t ≡ run (c ∷ []) (deviceOf s) .1
 unfolding run
 perform-makes c s t a e x = performed-step c (s .numbers) (s .memories) e (x .performed) .1
 
-perform-answers : (c : Invocation) (s t s′ t′ : Lending) (a b : Parts) → SameRecord s t → PerformPromises c s a s′ → PerformPromises c t b t′ → a ≡ b
+perform-answers : (c : Invocation) (s t s′ t′ : FlatDevice) (a b : Parts) → SameRecord s t → PerformPromises c s a s′ → PerformPromises c t b t′ → a ≡ b
 perform-answers c s t s′ t′ a b (no-record e f) x y = no-record-answer c e x ∙ sym (no-record-answer c f y)
 perform-answers c s t s′ t′ a b (record-of e f v p q) x y =
     let plans : planFor c (deviceOf s) ≡ planFor c (deviceOf t) = λ i. plan (c .call) (c .units) (v i) (p i) (q i) in
@@ -117,10 +117,10 @@ perform-answers c s t s′ t′ a b (record-of e f v p q) x y =
     ∙ ap (λ (z : Plan). z .outcome .answer) plans
     ∙ sym (performed-step c (t .numbers) (t .memories) f (y .performed) .0)
 
-perform-numbers : (c : Invocation) (s t s′ t′ : Lending) (a b : Parts) → SameRecord s t → s .numbers ≡ t .numbers → PerformPromises c s a s′ → PerformPromises c t b t′
+perform-numbers : (c : Invocation) (s t s′ t′ : FlatDevice) (a b : Parts) → SameRecord s t → s .numbers ≡ t .numbers → PerformPromises c s a s′ → PerformPromises c t b t′
     → s′ .numbers ≡ t′ .numbers
 perform-numbers c s t s′ t′ a b (no-record e f) n x y =
-    ap (λ (z : Lending). z .numbers) (perform-refuses c s s′ a (no-record-refuses s e) x) ∙ n ∙ sym (ap (λ (z : Lending). z .numbers) (perform-refuses c t t′ b (no-record-refuses t f) y))
+    ap (λ (z : FlatDevice). z .numbers) (perform-refuses c s s′ a (no-record-refuses s e) x) ∙ n ∙ sym (ap (λ (z : FlatDevice). z .numbers) (perform-refuses c t t′ b (no-record-refuses t f) y))
 perform-numbers c s t s′ t′ a b (record-of e f v p q) n x y =
     let plans : planOn (c .call) (c .units) (s .numbers) (length (s .memories .panel)) (length (s .memories .store)) ≡ planOn (c .call) (c .units) (t .numbers) (length (t .memories .panel)) (length (t .memories .store)) =
     λ i. planOn (c .call) (c .units) (n i) (p i) (q i)
@@ -141,7 +141,7 @@ perform-lawful =
 -- ---- the C entry: numbers that are no call are refused, others are performed
 
 -- what is promised of numbers that were read as q
-abbrev HostedAs : CallRead → (us : List ℕ) → Lending → Reply → Lending → Type 0
+abbrev HostedAs : CallRead → (us : List ℕ) → FlatDevice → Reply → FlatDevice → Type 0
 HostedAs q us s r t =
     Replied (planRead q us (s .numbers) (s .memories) .outcome .answer) r
     × Followed (planRead q us (s .numbers) (s .memories)) (s .numbers) (s .memories) (planRead q us (s .numbers) (s .memories) .outcome .answer) (t .numbers) (t .memories)
@@ -149,34 +149,34 @@ HostedAs q us s r t =
 abbrev invocation : Call → List ℕ → Invocation
 invocation c us = record { call = c; units = us }
 
-no-call-stays : (us : List ℕ) {s t : Lending} {r : Reply} → HostedAs NoCall us s r t → t ≡ s
+no-call-stays : (us : List ℕ) {s t : FlatDevice} {r : Reply} → HostedAs NoCall us s r t → t ≡ s
 no-call-stays us h = followed-refused (λ z. omega (arith, z)) (h .1)
 
-host-refuses : (q : CallRead) (us : List ℕ) (s t : Lending) (r : Reply) → (refusesEvery s ≡ 0 → ⊥) → Words32 (t .numbers) → HostedAs q us s r t → t ≡ s
+host-refuses : (q : CallRead) (us : List ℕ) (s t : FlatDevice) (r : Reply) → (refusesAllOn s ≡ 0 → ⊥) → Words32 (t .numbers) → HostedAs q us s r t → t ≡ s
 host-refuses NoCall us s t r ne w h = no-call-stays us h
 host-refuses (Is c) us s t r ne w h = perform-refuses (invocation c us) s t _ ne (record { performed = h .1; words = w })
 
-host-makes : (q : CallRead) (us : List ℕ) (s t : Lending) (r : Reply) → isRecord (s .numbers) ≡ true → Words32 (t .numbers) → HostedAs q us s r t
+host-makes : (q : CallRead) (us : List ℕ) (s t : FlatDevice) (r : Reply) → isRecord (s .numbers) ≡ true → Words32 (t .numbers) → HostedAs q us s r t
     → deviceOf t ≡ run (callsRead q us) (deviceOf s) .1
 unfolding run
 host-makes NoCall us s t r e w h = ap deviceOf (no-call-stays us h)
 host-makes (Is c) us s t r e w h = perform-makes (invocation c us) s t _ e (record { performed = h .1; words = w })
 
 -- the answer that is replied
-host-parts : (q : CallRead) (us : List ℕ) (s t s′ t′ : Lending) (r r′ : Reply) → SameRecord s t → Words32 (s′ .numbers) → Words32 (t′ .numbers) → HostedAs q us s r s′ → HostedAs q us t r′ t′
+host-parts : (q : CallRead) (us : List ℕ) (s t s′ t′ : FlatDevice) (r r′ : Reply) → SameRecord s t → Words32 (s′ .numbers) → Words32 (t′ .numbers) → HostedAs q us s r s′ → HostedAs q us t r′ t′
     → planRead q us (s .numbers) (s .memories) .outcome .answer ≡ planRead q us (t .numbers) (t .memories) .outcome .answer
 host-parts NoCall us s t s′ t′ r r′ same w w′ h j = refl
 host-parts (Is c) us s t s′ t′ r r′ same w w′ h j =
     perform-answers (invocation c us) s t s′ t′ _ _ same (record { performed = h .1; words = w }) (record { performed = j .1; words = w′ })
 
-host-numbers : (q : CallRead) (us : List ℕ) (s t s′ t′ : Lending) (r r′ : Reply) → SameRecord s t → s .numbers ≡ t .numbers → Words32 (s′ .numbers) → Words32 (t′ .numbers)
+host-numbers : (q : CallRead) (us : List ℕ) (s t s′ t′ : FlatDevice) (r r′ : Reply) → SameRecord s t → s .numbers ≡ t .numbers → Words32 (s′ .numbers) → Words32 (t′ .numbers)
     → HostedAs q us s r s′ → HostedAs q us t r′ t′ → s′ .numbers ≡ t′ .numbers
 host-numbers NoCall us s t s′ t′ r r′ same n w w′ h j =
-    ap (λ (z : Lending). z .numbers) (no-call-stays us h) ∙ n ∙ sym (ap (λ (z : Lending). z .numbers) (no-call-stays us j))
+    ap (λ (z : FlatDevice). z .numbers) (no-call-stays us h) ∙ n ∙ sym (ap (λ (z : FlatDevice). z .numbers) (no-call-stays us j))
 host-numbers (Is c) us s t s′ t′ r r′ same n w w′ h j =
     perform-numbers (invocation c us) s t s′ t′ _ _ same n (record { performed = h .1; words = w }) (record { performed = j .1; words = w′ })
 
-read : (c : HostInvocation) {s t : Lending} {r : Reply} → HostPromises c s r t → HostedAs (callOf (c .call)) (c .units) s r t
+read : (c : HostInvocation) {s t : FlatDevice} {r : Reply} → HostPromises c s r t → HostedAs (callOf (c .call)) (c .units) s r t
 read c x = (x .performed .replied, x .performed .followed)
 
 pub host-lawful : Lawful throughHost

@@ -35,7 +35,7 @@ use Rattle.plan.specs.Open.{openRefusal, openNumber, Opened}
 use Rattle.open.proofs.Opened.{Accepted, accepted, opened-sound}
 use Rattle.execution.specs.Execution.{Device, device, refusesAll}
 use Rattle.noninterference.specs.Claim.{Agree}
-use Rattle.end_to_end.specs.Lists.{Lending, deviceOf}
+use Rattle.end_to_end.specs.Lists.{FlatDevice, deviceOf}
 use Rattle.end_to_end.specs.Screens.{EqualLengths}
 use Rattle.end_to_end.proofs.Lists.{Linked}
 use Rattle.end_to_end.proofs.Snapshots.{Settled}
@@ -85,7 +85,7 @@ module _ (w h : ℕ) (ms ns : Memories) (pl : length (ms .panel) ≡ length (ns 
       }
 
 -- from the contract of one open
-module _ {w h : ℕ} {s t : Lending} {n : ℕ} (o : Opened w h (s .numbers) (s .memories) n (t .numbers) (t .memories)) where
+module _ {w h : ℕ} {s t : FlatDevice} {n : ℕ} (o : Opened w h (s .numbers) (s .memories) n (t .numbers) (t .memories)) where
   open-accepted : eqb n 0 ≡ true → Accepted w h (length (s .memories .panel)) (length (s .memories .store))
   open-accepted z = by (eqb (length (s .numbers)) recordSize) (sym (eqb-true n 0 z) ∙ o .answer)
     where
@@ -125,7 +125,7 @@ module _ {w h : ℕ} {s t : Lending} {n : ℕ} (o : Opened w h (s .numbers) (s .
           (subst (λ (d : Device). (refusesAll d ≡ 0) ⊎ (refusesAll d ≡ 9)) (sym (opened-device long)) (left-settled (eqb n 0) open-accepted))
       by (no ne) = inr (rw (misfit-record ne))
 
-pub opened-linked : {w h : ℕ} {s t s′ t′ : Lending} {n k : ℕ} → EqualLengths s t → Opened w h (s .numbers) (s .memories) n (s′ .numbers) (s′ .memories)
+pub opened-linked : {w h : ℕ} {s t s′ t′ : FlatDevice} {n k : ℕ} → EqualLengths s t → Opened w h (s .numbers) (s .memories) n (s′ .numbers) (s′ .memories)
     → Opened w h (t .numbers) (t .memories) k (t′ .numbers) (t′ .memories) → (n ≡ k) × Linked nothing s′ t′
 opened-linked {w} {h} {s} {t} {s′} {t′} {n} {k} q x y = (same, by (ℕ-discrete (length (s .numbers)) recordSize))
   where

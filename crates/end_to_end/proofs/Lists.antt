@@ -7,6 +7,7 @@ use lib.Dec.{eqb}
 use lib.ListN.{length}
 use borrow.Author.Tests.{eqb-true}
 use Rattle.laws.proofs.Test.{both}
+use Rattle.gdi.specs.declared.GdiState.{GdiState}
 use Rattle.numbers.specs.View.{view, isRecord}
 use Rattle.place.specs.declared.SurfaceId.{SurfaceId}
 use Rattle.paint.specs.Marks.{Marks}
@@ -15,35 +16,49 @@ use Rattle.execution.proofs.Steps.{run-append, run-kept}
 use Rattle.noninterference.specs.Claim.{Agree, marksAfter, marksOf}
 use Rattle.noninterference.proofs.Noninterference.{noninterference}
 use Rattle.noninterference.proofs.After.{marks-append}
-use Rattle.end_to_end.specs.Lists.{Lending, deviceOf, refusesEvery, isPixelOf, colourOf, EqualBut, Entry, throughPerform, throughHost, Made, none, call, callsOf, ListsAgree}
+use Rattle.end_to_end.specs.Lists.{FlatDevice, deviceOf, refusesAllOn, isPixelOn, colourOn, EqualBut, Entry, throughPerform, throughHost, Made, none, call, callsOf, ListsAgree}
 use Rattle.end_to_end.proofs.Entries.{SameRecord, no-record, record-of, no-record-refuses, served-record, Lawful, perform-lawful, host-lawful}
 
 -- Memories of equal lengths; both are no record, or both are one, and the devices agree but for marked pixels.
-pub record Linked (m : Marks) (s t : Lending) : Type 0 where
+pub record Linked (m : Marks) (s t : FlatDevice) : Type 0 where
   pub panels : length (s .memories .panel) ≡ length (t .memories .panel)
   pub stores : length (s .memories .store) ≡ length (t .memories .store)
   pub records : isRecord (s .numbers) ≡ isRecord (t .numbers)
   pub agree : isRecord (s .numbers) ≡ true → Agree m (deviceOf s) (deviceOf t)
 
 -- where there is no record, marks have no effect
-lost : {m k : Marks} {s t : Lending} → isRecord (s .numbers) ≡ false → Linked m s t → Linked k s t
+lost : {m k : Marks} {s t : FlatDevice} → isRecord (s .numbers) ≡ false → Linked m s t → Linked k s t
 lost e l = record { panels = l .panels; stores = l .stores; records = l .records; agree = λ z. absurd (true≢false (sym z ∙ e)) }
 
-same-record : {m : Marks} {s t : Lending} → Linked m s t → SameRecord s t
+same-record : {m : Marks} {s t : FlatDevice} → Linked m s t → SameRecord s t
 same-record {m} {s} {t} l = by (isRecord (s .numbers)) refl
   where
     by : (b : Bool) → isRecord (s .numbers) ≡ b → SameRecord s t
     by true e = record-of e (sym (l .records) ∙ e) (l .agree e .states) (l .panels) (l .stores)
     by false e = no-record e (sym (l .records) ∙ e)
 
+-- what follows from the record and the lengths, and from nothing where there is no record, is the same of both
+pub linked-same : {A : Type 0} {m : Marks} {s t : FlatDevice} → Linked m s t → (f : Bool → GdiState → (panel-len store-len : ℕ) → A)
+    → ((b b′ : GdiState) (n k n′ k′ : ℕ) → f false b n k ≡ f false b′ n′ k′)
+    → f (isRecord (s .numbers)) (view (s .numbers)) (length (s .memories .panel)) (length (s .memories .store))
+    ≡ f (isRecord (t .numbers)) (view (t .numbers)) (length (t .memories .panel)) (length (t .memories .store))
+linked-same {A} {m} {s} {t} l f no-record-same = by (isRecord (s .numbers)) (isRecord (t .numbers)) (l .records) (λ e. l .agree e .states)
+  where
+    by : (r q : Bool) → r ≡ q → (r ≡ true → view (s .numbers) ≡ view (t .numbers))
+        → f r (view (s .numbers)) (length (s .memories .panel)) (length (s .memories .store)) ≡ f q (view (t .numbers)) (length (t .memories .panel)) (length (t .memories .store))
+    by true true e same = λ i. f true (same refl i) (l .panels i) (l .stores i)
+    by true false e same = absurd (true≢false e)
+    by false true e same = absurd (true≢false (sym e))
+    by false false e same = no-record-same _ _ _ _ _ _
+
 -- pixels left unmarked have equal colours
-pub linked-pixels : {m : Marks} {s t : Lending} → Linked m s t → (u : SurfaceId) (x y : ℕ) → isPixelOf s u x y ≡ true → (m u x y → ⊥) → colourOf s u x y ≡ colourOf t u x y
+pub linked-pixels : {m : Marks} {s t : FlatDevice} → Linked m s t → (u : SurfaceId) (x y : ℕ) → isPixelOn s u x y ≡ true → (m u x y → ⊥) → colourOn s u x y ≡ colourOn t u x y
 linked-pixels {s = s} l u x y i n =
-    let e = served-record s (eqb-true (refusesEvery s) 0 (both (eqb (refusesEvery s) 0) _ i .0)) in
+    let e = served-record s (eqb-true (refusesAllOn s) 0 (both (eqb (refusesAllOn s) 0) _ i .0)) in
     l .agree e .pixels u x y (rw e at i) n
 
 -- equal but for marked pixels is linked with equal numbers
-pub linked-of : {m : Marks} {s t : Lending} → EqualBut m s t → Linked m s t
+pub linked-of : {m : Marks} {s t : FlatDevice} → EqualBut m s t → Linked m s t
 linked-of {s = s} q =
     record {
       panels = q .panels;
@@ -52,23 +67,23 @@ linked-of {s = s} q =
       agree = λ e. record { states = ap view (q .numbers); panels = q .panels; stores = q .stores; pixels = λ u x y i n. q .pixels u x y (rw e i) n };
     }
 
-equal-of : {m : Marks} {s t : Lending} → s .numbers ≡ t .numbers → Linked m s t → EqualBut m s t
+equal-of : {m : Marks} {s t : FlatDevice} → s .numbers ≡ t .numbers → Linked m s t → EqualBut m s t
 equal-of n l = record { numbers = n; panels = l .panels; stores = l .stores; pixels = linked-pixels l }
 
 module _ (e : Entry) (law : Lawful e) where
   -- where every call is refused, everything is as it was
-  pub made-refused : {cs : List (e .Argument)} {s t : Lending} {rs : List (e .Answer)} → (refusesEvery s ≡ 0 → ⊥) → Made e cs s rs t → t ≡ s
+  pub made-refused : {cs : List (e .Argument)} {s t : FlatDevice} {rs : List (e .Answer)} → (refusesAllOn s ≡ 0 → ⊥) → Made e cs s rs t → t ≡ s
   made-refused ne none = refl
   made-refused ne (call {c = c} {s = s} {t = t} {a = a} x xs) =
       let q = law .refuses c s t a ne x in
-      made-refused (λ z. ne (ap refusesEvery (sym q) ∙ z)) xs ∙ q
+      made-refused (λ z. ne (ap refusesAllOn (sym q) ∙ z)) xs ∙ q
 
   -- numbers that are no record stay, with the memories
-  stays : {c : e .Argument} {s t : Lending} {a : e .Answer} → isRecord (s .numbers) ≡ false → e .Promises c s a t → t ≡ s
+  stays : {c : e .Argument} {s t : FlatDevice} {a : e .Answer} → isRecord (s .numbers) ≡ false → e .Promises c s a t → t ≡ s
   stays {c} {s} {t} {a} f x = law .refuses c s t a (no-record-refuses s f) x
 
   -- a record stays one, and the calls are made on the device
-  made-makes : {cs : List (e .Argument)} {s t : Lending} {rs : List (e .Answer)} → isRecord (s .numbers) ≡ true → Made e cs s rs t
+  made-makes : {cs : List (e .Argument)} {s t : FlatDevice} {rs : List (e .Answer)} → isRecord (s .numbers) ≡ true → Made e cs s rs t
       → (isRecord (t .numbers) ≡ true) × (deviceOf t ≡ run (callsOf e cs) (deviceOf s) .1)
   unfolding run callsOf
   made-makes f none = (f, refl)
@@ -77,7 +92,7 @@ module _ (e : Entry) (law : Lawful e) where
       (g, q ∙ ap (λ (d : Device). run (callsOf e cs) d .1) (law .makes c s t a f x) ∙ sym (run-append (e .calls c) (callsOf e cs) (deviceOf s)))
 
   -- one call on two that are linked
-  step-linked : {m : Marks} {c : e .Argument} {s t s′ t′ : Lending} {a b : e .Answer} → Linked m s t → e .Promises c s a s′ → e .Promises c t b t′
+  step-linked : {m : Marks} {c : e .Argument} {s t s′ t′ : FlatDevice} {a b : e .Answer} → Linked m s t → e .Promises c s a s′ → e .Promises c t b t′
       → Linked (marksOf (e .calls c) (deviceOf s) m) s′ t′
   step-linked {m} {c} {s} {t} {s′} {t′} {a} {b} l x y = by (isRecord (s .numbers)) refl
     where
@@ -91,10 +106,10 @@ module _ (e : Entry) (law : Lawful e) where
           record { panels = after .panels; stores = after .stores; records = law .stays-record c s s′ a f x ∙ sym (law .stays-record c t t′ b g y); agree = λ z. after }
       by false f =
           let g : isRecord (t .numbers) ≡ false = sym (l .records) ∙ f in
-          subst₂ (λ (p q : Lending). Linked (marksOf (e .calls c) (deviceOf s) m) p q) (sym (stays f x)) (sym (stays g y)) (lost f l)
+          subst₂ (λ (p q : FlatDevice). Linked (marksOf (e .calls c) (deviceOf s) m) p q) (sym (stays f x)) (sym (stays g y)) (lost f l)
 
   -- the marks of a call and then of a list are those of the longer list, where they have an effect
-  marks-then : (m : Marks) {c : e .Argument} {cs : List (e .Argument)} {s s′ t t′ : Lending} {a : e .Answer} {rs : List (e .Answer)} → e .Promises c s a s′ → Made e cs s′ rs t
+  marks-then : (m : Marks) {c : e .Argument} {cs : List (e .Argument)} {s s′ t t′ : FlatDevice} {a : e .Answer} {rs : List (e .Answer)} → e .Promises c s a s′ → Made e cs s′ rs t
       → Linked (marksOf (callsOf e cs) (deviceOf s′) (marksOf (e .calls c) (deviceOf s) m)) t t′ → Linked (marksOf (callsOf e (c ∷ cs)) (deviceOf s) m) t t′
   unfolding callsOf
   marks-then m {c} {cs} {s} {s′} {t} {t′} {a} x xs l = by (isRecord (s .numbers)) refl
@@ -105,11 +120,11 @@ module _ (e : Entry) (law : Lawful e) where
           (ap (λ (d : Device). marksOf (callsOf e cs) d (marksOf (e .calls c) (deviceOf s) m)) (law .makes c s s′ a f x) ∙ sym (marks-append (e .calls c) (callsOf e cs) (deviceOf s) m)) l
       by false f =
           let q = stays f x in
-          let g : isRecord (s′ .numbers) ≡ false = ap (λ (z : Lending). isRecord (z .numbers)) q ∙ f in
-          lost (ap (λ (z : Lending). isRecord (z .numbers)) (made-refused (no-record-refuses s′ g) xs) ∙ g) l
+          let g : isRecord (s′ .numbers) ≡ false = ap (λ (z : FlatDevice). isRecord (z .numbers)) q ∙ f in
+          lost (ap (λ (z : FlatDevice). isRecord (z .numbers)) (made-refused (no-record-refuses s′ g) xs) ∙ g) l
 
   -- a list on two that are linked
-  pub made-linked : {m : Marks} {cs : List (e .Argument)} {s t s′ t′ : Lending} {rs qs : List (e .Answer)} → Linked m s t → Made e cs s rs s′ → Made e cs t qs t′
+  pub made-linked : {m : Marks} {cs : List (e .Argument)} {s t s′ t′ : FlatDevice} {rs qs : List (e .Answer)} → Linked m s t → Made e cs s rs s′ → Made e cs t qs t′
       → (rs ≡ qs) × Linked (marksOf (callsOf e cs) (deviceOf s) m) s′ t′
   unfolding callsOf marksAfter
   made-linked l none none = (refl, l)
@@ -118,14 +133,14 @@ module _ (e : Entry) (law : Lawful e) where
       (ap₂ _∷_ (law .answers c s t s′ t′ a b (same-record l) x y) q, marks-then m x xs k)
 
   -- equal numbers stay equal
-  made-numbers : {m : Marks} {cs : List (e .Argument)} {s t s′ t′ : Lending} {rs qs : List (e .Answer)} → Linked m s t → s .numbers ≡ t .numbers
+  made-numbers : {m : Marks} {cs : List (e .Argument)} {s t s′ t′ : FlatDevice} {rs qs : List (e .Answer)} → Linked m s t → s .numbers ≡ t .numbers
       → Made e cs s rs s′ → Made e cs t qs t′ → s′ .numbers ≡ t′ .numbers
   made-numbers l n none none = n
   made-numbers l n (call {c = c} {s = s} {t = s′} {a = a} x xs) (call {s = t} {t = t′} {a = b} y ys) =
       made-numbers (step-linked l x y) (law .numbers c s t s′ t′ a b (same-record l) n x y) xs ys
 
   -- a ready device is ready after every list
-  pub made-looks : {cs : List (e .Argument)} {s t : Lending} {rs : List (e .Answer)} → refusesEvery s ≡ 0 → Made e cs s rs t → refusesEvery t ≡ 0
+  pub made-looks : {cs : List (e .Argument)} {s t : FlatDevice} {rs : List (e .Answer)} → refusesAllOn s ≡ 0 → Made e cs s rs t → refusesAllOn t ≡ 0
   made-looks {cs} {s} z xs =
       let f = served-record s z in
       let (g, q) = made-makes f xs in

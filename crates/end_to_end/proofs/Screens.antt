@@ -1,37 +1,27 @@
 -- From open to a saved screen, through `perform` and through the C entry. Assumes nothing.
-use mathlib.Core.Bool.{Bool, true, false, cond, true≢false}
+use mathlib.Core.Bool.{cond}
 use mathlib.Core.List.{List, [], _∷_, _++_}
 use mathlib.Core.Logic.{inl, inr}
-use mathlib.Core.Path.{_≡_, refl, sym, _∙_, ap}
+use mathlib.Core.Path.{_≡_, refl, _∙_, ap}
 use Prim.Native.Nat.{ℕ}
 use native.Mathlib.Omega.{arith}
-use lib.ListN.{length}
-use Rattle.numbers.specs.View.{view, isRecord}
 use Rattle.ready.specs.Ready.{commonRefusal}
 use Rattle.place.specs.declared.SurfaceId.the-variants.{Panel}
 use Rattle.paint.specs.Marks.{Marks}
 use Rattle.noninterference.proofs.After.{Unmarked, none-after}
-use Rattle.end_to_end.specs.Lists.{Lending, refusesEvery, Entry, throughPerform, throughHost, Made, none, call, callsOf}
+use Rattle.end_to_end.specs.Lists.{FlatDevice, refusesAllOn, Entry, throughPerform, throughHost, Made, none, call, callsOf}
 use Rattle.end_to_end.specs.Screens.{SameScreen, Session, EqualLengths, Between, SameSession, ScreensAgree}
 use Rattle.end_to_end.proofs.Entries.{served-record, Lawful, perform-lawful, host-lawful}
-use Rattle.end_to_end.proofs.Lists.{Linked, linked-pixels, linked-of, made-linked, made-looks, made-refused}
+use Rattle.end_to_end.proofs.Lists.{Linked, linked-same, linked-pixels, linked-of, made-linked, made-looks, made-refused}
 use Rattle.end_to_end.proofs.Fresh.{nothing, opened-linked, opened-settled}
 use Rattle.end_to_end.proofs.Snapshots.{Settled, same-snapshots}
 
 -- what every call is refused with follows from the record and the lengths
-refusals-same : {m : Marks} {s t : Lending} → Linked m s t → refusesEvery s ≡ refusesEvery t
-refusals-same {s = s} {t = t} l = by (isRecord (s .numbers)) (isRecord (t .numbers)) (l .records) (λ e. l .agree e .states)
-  where
-    by : (r q : Bool) → r ≡ q → (r ≡ true → view (s .numbers) ≡ view (t .numbers))
-        → cond r (commonRefusal (view (s .numbers)) (length (s .memories .panel)) (length (s .memories .store))) 9
-        ≡ cond q (commonRefusal (view (t .numbers)) (length (t .memories .panel)) (length (t .memories .store))) 9
-    by true true e f = λ i. commonRefusal (f refl i) (l .panels i) (l .stores i)
-    by true false e f = absurd (true≢false e)
-    by false true e f = absurd (true≢false (sym e))
-    by false false e f = refl
+refusals-same : {m : Marks} {s t : FlatDevice} → Linked m s t → refusesAllOn s ≡ refusesAllOn t
+refusals-same l = linked-same l (λ r b n k. cond r (commonRefusal b n k) 9) (λ b b′ n k n′ k′. refl)
 
 -- two that are linked with no pixel marked show the same
-same-screen : {m : Marks} {s t : Lending} → Linked m s t → Unmarked m → Settled s → SameScreen s t
+same-screen : {m : Marks} {s t : FlatDevice} → Linked m s t → Unmarked m → Settled s → SameScreen s t
 same-screen {s = s} l clear settled =
     record {
       refusals = refusals-same l;
@@ -41,18 +31,18 @@ same-screen {s = s} l clear settled =
     }
 
 -- a point of a list
-split : (e : Entry) (cs ds : List (e .Argument)) {s t : Lending} {rs : List (e .Answer)} → Made e (cs ++ ds) s rs t → Between e cs ds s rs t
+split : (e : Entry) (cs ds : List (e .Argument)) {s t : FlatDevice} {rs : List (e .Answer)} → Made e (cs ++ ds) s rs t → Between e cs ds s rs t
 split e [] ds {s} {t} {rs} xs = record { point = s; first = []; rest = rs; answers = refl; before = none; after = xs }
 split e (c ∷ cs) ds (call {a = a} x xs) =
     let b = split e cs ds xs in
     record { point = b .point; first = a ∷ b .first; rest = b .rest; answers = ap (λ (l : List (e .Answer)). a ∷ l) (b .answers); before = call x (b .before); after = b .after }
 
 module _ (e : Entry) (law : Lawful e) where
-  made-settled : {cs : List (e .Argument)} {s t : Lending} {rs : List (e .Answer)} → Settled s → Made e cs s rs t → Settled t
+  made-settled : {cs : List (e .Argument)} {s t : FlatDevice} {rs : List (e .Answer)} → Settled s → Made e cs s rs t → Settled t
   made-settled (inl z) xs = inl (made-looks e law z xs)
-  made-settled (inr z) xs = inr (ap refusesEvery (made-refused e law (λ y. omega (arith, y, z)) xs) ∙ z)
+  made-settled (inr z) xs = inr (ap refusesAllOn (made-refused e law (λ y. omega (arith, y, z)) xs) ∙ z)
 
-  same-session : {w h : ℕ} {cs : List (e .Argument)} {s t s′ t′ : Lending} {n k : ℕ} {rs qs : List (e .Answer)} → EqualLengths s t → Session e w h cs s n rs s′ → Session e w h cs t k qs t′
+  same-session : {w h : ℕ} {cs : List (e .Argument)} {s t s′ t′ : FlatDevice} {n k : ℕ} {rs qs : List (e .Answer)} → EqualLengths s t → Session e w h cs s n rs s′ → Session e w h cs t k qs t′
       → SameSession n k rs qs s′ t′
   same-session {cs = cs} q x y =
       let (number, l) = opened-linked q (x .opened) (y .opened) in

@@ -1,5 +1,5 @@
 -- Snapshots depend on the record and on the panel's pixels alone. Assumes nothing.
-use mathlib.Core.Bool.{Bool, true, false, cond, _&&_, true≢false}
+use mathlib.Core.Bool.{Bool, true, false, cond, _&&_}
 use mathlib.Core.List.{List, _++_}
 use mathlib.Core.Logic.{_⊎_, inl, inr}
 use mathlib.Core.Path.{_≡_, refl, sym, _∙_, ap, ap₂, subst}
@@ -29,10 +29,10 @@ use Rattle.p6.specs.P6.{p6}
 use Rattle.p6.specs.Joined.{joined}
 use Rattle.samples.specs.Samples.{rgb, rgba}
 use Rattle.snapshot.specs.Snapshot.{snapshotRefusal, Format, Snapped}
-use Rattle.end_to_end.specs.Lists.{Lending, deviceOf, refusesEvery, isPixelOf}
+use Rattle.end_to_end.specs.Lists.{FlatDevice, deviceOf, refusesAllOn, isPixelOn}
 use Rattle.end_to_end.specs.Screens.{Saves, as-rgba, as-ppm, SameSnapshots}
 use Rattle.end_to_end.proofs.Entries.{served-record}
-use Rattle.end_to_end.proofs.Lists.{Linked}
+use Rattle.end_to_end.proofs.Lists.{Linked, linked-same}
 
 -- ---- a picture depends on the panel's words
 
@@ -60,13 +60,13 @@ module _ (w h i : ℕ) (some : 0 < w) (lt : i < w * h) where
       let e : i % w + i / w * w ≡ i = omega (arith, div-add-mod' i w) in
       rw e (word-part m 0 (w * h) i lt ∙ ap (word m) (omega arith))
 
-module _ {m : Marks} {s t : Lending} (l : Linked m s t) where
+module _ {m : Marks} {s t : FlatDevice} (l : Linked m s t) where
   -- the records are the same
   views : isRecord (s .numbers) ≡ true → view (s .numbers) ≡ view (t .numbers)
   views e = l .agree e .states
 
   -- the device is ready, and no pixel of the panel is marked
-  module _ (served : refusesEvery s ≡ 0) (clear : (x y : ℕ) → isPixelOf s Panel x y ≡ true → m Panel x y → ⊥) where
+  module _ (served : refusesAllOn s ≡ 0) (clear : (x y : ℕ) → isPixelOn s Panel x y ≡ true → m Panel x y → ⊥) where
     is-record : isRecord (s .numbers) ≡ true
     is-record = served-record s served
 
@@ -80,7 +80,7 @@ module _ {m : Marks} {s t : Lending} (l : Linked m s t) where
         let x = i % w in
         let y = i / w in
         let within = together (lt-ltb x w (column-lt w h i some lt)) (lt-ltb y h (row-lt w h i some lt)) in
-        let pixel = together (eq-eqb (refusesEvery s) 0 served) within in
+        let pixel = together (eq-eqb (refusesAllOn s) 0 served) within in
         let same : colourAt (s .memories) (whereIs (view (s .numbers)) Panel) x y ≡ colourAt (t .memories) (whereIs (view (s .numbers)) Panel) x y =
         subst (λ (b : GdiState). colourAt (s .memories) (whereIs (view (s .numbers)) Panel) x y ≡ colourAt (t .memories) (whereIs b Panel) x y) (sym (views is-record))
         (l .agree is-record .pixels Panel x y (together (eq-eqb (refusesAll (deviceOf s)) 0 looked) within) (clear x y pixel))
@@ -93,20 +93,15 @@ abbrev numberBy : Bool → GdiState → (panel-len out-len : ℕ) → (wanted : 
 numberBy r b n got wanted =
     cond (eqb (cond r (commonRefusal b n (b .«store_len»)) 9) 0) (cond (eqb got (wanted (b .width) (b .height))) 0 8) (cond r (commonRefusal b n (b .«store_len»)) 9)
 
-number-same : {m : Marks} {s t : Lending} → Linked m s t → (out out′ : List ℕ) → length out ≡ length out′ → (wanted : (width height : ℕ) → ℕ)
+number-same : {m : Marks} {s t : FlatDevice} → Linked m s t → (out out′ : List ℕ) → length out ≡ length out′ → (wanted : (width height : ℕ) → ℕ)
     → snapshotRefusal (s .numbers) (length (s .memories .panel)) (length out) wanted ≡ snapshotRefusal (t .numbers) (length (t .memories .panel)) (length out′) wanted
 unfolding snapshotRefusal
-number-same {s = s} {t = t} l out out′ long wanted = by (isRecord (s .numbers)) (isRecord (t .numbers)) (l .records) (views l)
-  where
-    by : (r q : Bool) → r ≡ q → (r ≡ true → view (s .numbers) ≡ view (t .numbers))
-        → numberBy r (view (s .numbers)) (length (s .memories .panel)) (length out) wanted ≡ numberBy q (view (t .numbers)) (length (t .memories .panel)) (length out′) wanted
-    by true true e f = λ i. numberBy true (f refl i) (l .panels i) (long i) wanted
-    by true false e f = absurd (true≢false e)
-    by false true e f = absurd (true≢false (sym e))
-    by false false e f = refl
+number-same {t = t} l out out′ long wanted =
+    linked-same l (λ r b n k. numberBy r b n (length out) wanted) (λ b b′ n k n′ k′. refl)
+    ∙ ap (λ (got : ℕ). numberBy (isRecord (t .numbers)) (view (t .numbers)) (length (t .memories .panel)) got wanted) long
 
 -- an unsound record is refused, and numbers that are none
-nine-refused : (s : Lending) (got : ℕ) (wanted : (width height : ℕ) → ℕ) → refusesEvery s ≡ 9 → snapshotRefusal (s .numbers) (length (s .memories .panel)) got wanted ≡ 0 → ⊥
+nine-refused : (s : FlatDevice) (got : ℕ) (wanted : (width height : ℕ) → ℕ) → refusesAllOn s ≡ 9 → snapshotRefusal (s .numbers) (length (s .memories .panel)) got wanted ≡ 0 → ⊥
 unfolding snapshotRefusal commonRefusal
 nine-refused s got wanted = by (isRecord (s .numbers)) (isSound (view (s .numbers))) (eqb n (b .«panel_len»)) (eqb (length (s .memories .store)) (b .«store_len»))
   where
@@ -128,10 +123,10 @@ nine-refused s got wanted = by (isRecord (s .numbers)) (isSound (view (s .number
     by false t p q e z = omega (arith, z)
 
 -- The device is ready, or refuses every call with 9. One that refuses with 8 for the length of its store can still be saved.
-abbrev pub Settled : Lending → Type 0
-Settled s = (refusesEvery s ≡ 0) ⊎ (refusesEvery s ≡ 9)
+abbrev pub Settled : FlatDevice → Type 0
+Settled s = (refusesAllOn s ≡ 0) ⊎ (refusesAllOn s ≡ 9)
 
-module _ {m : Marks} {s t : Lending} (l : Linked m s t) (settled : Settled s) (clear : (x y : ℕ) → isPixelOf s Panel x y ≡ true → m Panel x y → ⊥) {f : Format} (saves : Saves f) where
+module _ {m : Marks} {s t : FlatDevice} (l : Linked m s t) (settled : Settled s) (clear : (x y : ℕ) → isPixelOn s Panel x y ≡ true → m Panel x y → ⊥) {f : Format} (saves : Saves f) where
   pub same-snapshots : SameSnapshots f s t
   same-snapshots =
       record {

@@ -24,39 +24,39 @@ use Rattle.host_call.specs.Call.{callOf}
 use Rattle.host_reply.specs.declared.Reply.{Reply}
 use Rattle.host.specs.Host.{HostPerformed}
 
--- What a caller keeps and lends with each call: the record as numbers, and the two memories.
-pub record Lending : Type 0 where
+-- A flat device, what a caller keeps and lends with each call: the record as numbers, and the two memories.
+pub record FlatDevice : Type 0 where
   pub numbers : List ℕ
   pub memories : Memories
 
--- the device that they are
-abbrev pub deviceOf : Lending → Device
+-- the device that it is
+abbrev pub deviceOf : FlatDevice → Device
 deviceOf s = device (view (s .numbers)) (s .memories)
 
 -- 9 or 8, with which every call is refused; 0 if the device is ready
-abbrev pub refusesEvery : Lending → ℕ
-refusesEvery s = commonRefusalOn (s .numbers) (length (s .memories .panel)) (length (s .memories .store))
+abbrev pub refusesAllOn : FlatDevice → ℕ
+refusesAllOn s = commonRefusalOn (s .numbers) (length (s .memories .panel)) (length (s .memories .store))
 
 -- a pixel of the device; one that refuses every call has none
-abbrev pub isPixelOf : Lending → SurfaceId → (x y : ℕ) → Bool
-isPixelOf s u x y = eqb (refusesEvery s) 0 && inside (whereIs (view (s .numbers)) u) x y
+abbrev pub isPixelOn : FlatDevice → SurfaceId → (x y : ℕ) → Bool
+isPixelOn s u x y = eqb (refusesAllOn s) 0 && inside (whereIs (view (s .numbers)) u) x y
 
-abbrev pub colourOf : Lending → SurfaceId → (x y : ℕ) → ℕ
-colourOf s u x y = colourAt (s .memories) (whereIs (view (s .numbers)) u) x y
+abbrev pub colourOn : FlatDevice → SurfaceId → (x y : ℕ) → ℕ
+colourOn s u x y = colourAt (s .memories) (whereIs (view (s .numbers)) u) x y
 
 -- Equal numbers, memories of equal lengths, and equal pixels except where marked.
-pub record EqualBut (m : Marks) (s t : Lending) : Type 0 where
+pub record EqualBut (m : Marks) (s t : FlatDevice) : Type 0 where
   pub numbers : s .numbers ≡ t .numbers
   pub panels : length (s .memories .panel) ≡ length (t .memories .panel)
   pub stores : length (s .memories .store) ≡ length (t .memories .store)
-  pub pixels : (u : SurfaceId) (x y : ℕ) → isPixelOf s u x y ≡ true → (m u x y → ⊥) → colourOf s u x y ≡ colourOf t u x y
+  pub pixels : (u : SurfaceId) (x y : ℕ) → isPixelOn s u x y ≡ true → (m u x y → ⊥) → colourOn s u x y ≡ colourOn t u x y
 
 -- A function through which calls are made: its argument, its answer, what its contract promises of the two and of what was lent,
 -- before and after, and which calls an argument is, one or none.
 pub record Entry : Type 1 where
   pub Argument : Type 0
   pub Answer : Type 0
-  pub Promises : Argument → Lending → Answer → Lending → Type 0
+  pub Promises : Argument → FlatDevice → Answer → FlatDevice → Type 0
   pub calls : Argument → List Invocation
 
 -- numbers of 32 bits, as the type `u32` has them
@@ -64,7 +64,7 @@ pub record Words32 (l : List ℕ) : Type 0 where
   pub below : (k : ℕ) → at l k < 2 ^ 32
 
 -- `perform` promises its contract, which takes the answer by number and values; the numbers are a slice of `u32`.
-pub record PerformPromises (c : Invocation) (s : Lending) (a : Parts) (t : Lending) : Type 0 where
+pub record PerformPromises (c : Invocation) (s : FlatDevice) (a : Parts) (t : FlatDevice) : Type 0 where
   pub performed : Performed (c .call) (c .units) (s .numbers) (s .memories) a (t .numbers) (t .memories)
   pub words : Words32 (t .numbers)
 
@@ -77,7 +77,7 @@ pub record HostInvocation : Type 0 where
   pub units : List ℕ
 
 -- `ravinefork_perform` promises its contract; a reply's fields are an array of `u32`.
-pub record HostPromises (c : HostInvocation) (s : Lending) (r : Reply) (t : Lending) : Type 0 where
+pub record HostPromises (c : HostInvocation) (s : FlatDevice) (r : Reply) (t : FlatDevice) : Type 0 where
   pub performed : HostPerformed (c .call) (c .units) (s .numbers) (s .memories) r (t .numbers) (t .memories)
   pub words : Words32 (t .numbers)
   pub fields : Words32 (r .fields)
@@ -92,9 +92,9 @@ abbrev pub throughHost : Entry
 throughHost = record { Argument = HostInvocation; Answer = Reply; Promises = HostPromises; calls = λ c. callsRead (callOf (c .call)) (c .units) }
 
 -- A list of calls was made, each on what the last one left.
-pub data Made (e : Entry) : List (e .Argument) → Lending → List (e .Answer) → Lending → Type 0 where
-  none : {s : Lending} → Made e [] s [] s
-  call : {c : e .Argument} {cs : List (e .Argument)} {s t u : Lending} {a : e .Answer} {rs : List (e .Answer)}
+pub data Made (e : Entry) : List (e .Argument) → FlatDevice → List (e .Answer) → FlatDevice → Type 0 where
+  none : {s : FlatDevice} → Made e [] s [] s
+  call : {c : e .Argument} {cs : List (e .Argument)} {s t u : FlatDevice} {a : e .Answer} {rs : List (e .Answer)}
       → e .Promises c s a t → Made e cs t rs u → Made e (c ∷ cs) s (a ∷ rs) u
 
 -- the calls of a list of arguments
@@ -105,9 +105,9 @@ callsOf e (c ∷ cs) = e .calls c ++ callsOf e cs
 pub record ListsAgree (e : Entry) : Type 1 where
   -- Two callers lend the same but for marked pixels, whatever the numbers and memories are, and make the same list of calls: all
   -- answers are equal, and afterwards all numbers and every pixel left unmarked.
-  pub lists : (cs : List (e .Argument)) (m : Marks) (s t s′ t′ : Lending) (rs qs : List (e .Answer))
+  pub lists : (cs : List (e .Argument)) (m : Marks) (s t s′ t′ : FlatDevice) (rs qs : List (e .Answer))
       → EqualBut m s t → Made e cs s rs s′ → Made e cs t qs t′ → (rs ≡ qs) × EqualBut (marksOf (callsOf e cs) (deviceOf s) m) s′ t′
   -- A ready device is ready after every list, so that the pixels do not go away.
-  pub stays-ready : (cs : List (e .Argument)) (s s′ : Lending) (rs : List (e .Answer)) → refusesEvery s ≡ 0 → Made e cs s rs s′ → refusesEvery s′ ≡ 0
+  pub stays-ready : (cs : List (e .Argument)) (s s′ : FlatDevice) (rs : List (e .Answer)) → refusesAllOn s ≡ 0 → Made e cs s rs s′ → refusesAllOn s′ ≡ 0
   -- A device that refuses every call keeps every number and every byte.
-  pub refuses : (cs : List (e .Argument)) (s s′ : Lending) (rs : List (e .Answer)) → (refusesEvery s ≡ 0 → ⊥) → Made e cs s rs s′ → s′ ≡ s
+  pub refuses : (cs : List (e .Argument)) (s s′ : FlatDevice) (rs : List (e .Answer)) → (refusesAllOn s ≡ 0 → ⊥) → Made e cs s rs s′ → s′ ≡ s

@@ -11,10 +11,10 @@ use Rattle.paint.specs.Marks.{Marks}
 use Rattle.plan.specs.Open.{Opened}
 use Rattle.noninterference.specs.Claim.{marksOf}
 use Rattle.snapshot.specs.Snapshot.{Format, rgba8888, ppm, Snapped}
-use Rattle.end_to_end.specs.Lists.{Lending, deviceOf, refusesEvery, isPixelOf, colourOf, EqualBut, Entry, Made, callsOf}
+use Rattle.end_to_end.specs.Lists.{FlatDevice, deviceOf, refusesAllOn, isPixelOn, colourOn, EqualBut, Entry, Made, callsOf}
 
 -- Snapshots of both, into outputs of equal lengths that hold anything: the same number; if it is 0, the same bytes.
-pub record SameSnapshots (f : Format) (s t : Lending) : Type 0 where
+pub record SameSnapshots (f : Format) (s t : FlatDevice) : Type 0 where
   pub same : (out₁ out₂ out₁′ out₂′ : List ℕ) (n k : ℕ) → length out₁ ≡ length out₂ → Snapped f (s .numbers) (s .memories .panel) out₁ n out₁′
       → Snapped f (t .numbers) (t .memories .panel) out₂ k out₂′ → (n ≡ k) × (n ≡ 0 → out₁′ ≡ out₂′)
 
@@ -24,27 +24,27 @@ pub data Saves : Format → Type 0 where
   as-ppm : Saves ppm
 
 -- Both show the same: they refuse alike, have equal records and pixels of equal colours, and both snapshots are the same.
-pub record SameScreen (s t : Lending) : Type 0 where
-  pub refusals : refusesEvery s ≡ refusesEvery t
-  pub records : refusesEvery s ≡ 0 → view (s .numbers) ≡ view (t .numbers)
-  pub pixels : (u : SurfaceId) (x y : ℕ) → isPixelOf s u x y ≡ true → colourOf s u x y ≡ colourOf t u x y
+pub record SameScreen (s t : FlatDevice) : Type 0 where
+  pub refusals : refusesAllOn s ≡ refusesAllOn t
+  pub records : refusesAllOn s ≡ 0 → view (s .numbers) ≡ view (t .numbers)
+  pub pixels : (u : SurfaceId) (x y : ℕ) → isPixelOn s u x y ≡ true → colourOn s u x y ≡ colourOn t u x y
   pub snapshots : (f : Format) → Saves f → SameSnapshots f s t
 
 -- A device was opened, and a list of calls made on it.
-pub record Session (e : Entry) (w h : ℕ) (cs : List (e .Argument)) (before : Lending) (number : ℕ) (rs : List (e .Answer)) (after : Lending) : Type 0 where
-  pub fresh : Lending
+pub record Session (e : Entry) (w h : ℕ) (cs : List (e .Argument)) (before : FlatDevice) (number : ℕ) (rs : List (e .Answer)) (after : FlatDevice) : Type 0 where
+  pub fresh : FlatDevice
   pub opened : Opened w h (before .numbers) (before .memories) number (fresh .numbers) (fresh .memories)
   pub made : Made e cs fresh rs after
 
 -- numbers and memories of equal lengths, whatever they hold
-pub record EqualLengths (s t : Lending) : Type 0 where
+pub record EqualLengths (s t : FlatDevice) : Type 0 where
   pub numbers : length (s .numbers) ≡ length (t .numbers)
   pub panels : length (s .memories .panel) ≡ length (t .memories .panel)
   pub stores : length (s .memories .store) ≡ length (t .memories .store)
 
 -- A list was made in two parts: the point between them is the end of the first, and the second goes on from there.
-pub record Between (e : Entry) (cs ds : List (e .Argument)) (s : Lending) (rs : List (e .Answer)) (t : Lending) : Type 0 where
-  pub point : Lending
+pub record Between (e : Entry) (cs ds : List (e .Argument)) (s : FlatDevice) (rs : List (e .Answer)) (t : FlatDevice) : Type 0 where
+  pub point : FlatDevice
   pub first : List (e .Answer)
   pub rest : List (e .Answer)
   pub answers : rs ≡ first ++ rest
@@ -52,7 +52,7 @@ pub record Between (e : Entry) (cs ds : List (e .Argument)) (s : Lending) (rs : 
   pub after : Made e ds point rest t
 
 -- Two sessions are the same: the number of the open, all answers, and what is shown at the end.
-pub record SameSession {A : Type 0} (n k : ℕ) (rs qs : List A) (s t : Lending) : Type 0 where
+pub record SameSession {A : Type 0} (n k : ℕ) (rs qs : List A) (s t : FlatDevice) : Type 0 where
   pub number : n ≡ k
   pub answers : rs ≡ qs
   pub screen : SameScreen s t
@@ -60,12 +60,12 @@ pub record SameSession {A : Type 0} (n k : ℕ) (rs qs : List A) (s t : Lending)
 pub record ScreensAgree (e : Entry) : Type 1 where
   -- Two devices are opened with the same sides, on numbers and memories of equal lengths that hold anything at all, and the same
   -- list of calls is made on both: all answers are equal, every pixel is, and both snapshots are the same bytes.
-  pub sessions : (w h : ℕ) (cs : List (e .Argument)) (s t s′ t′ : Lending) (n k : ℕ) (rs qs : List (e .Answer))
+  pub sessions : (w h : ℕ) (cs : List (e .Argument)) (s t s′ t′ : FlatDevice) (n k : ℕ) (rs qs : List (e .Answer))
       → EqualLengths s t → Session e w h cs s n rs s′ → Session e w h cs t k qs t′ → SameSession n k rs qs s′ t′
   -- So it is at every point of the list: a point is the end of the list up to it.
-  pub points : (cs ds : List (e .Argument)) (s t : Lending) (rs : List (e .Answer)) → Made e (cs ++ ds) s rs t → Between e cs ds s rs t
+  pub points : (cs ds : List (e .Argument)) (s t : FlatDevice) (rs : List (e .Answer)) → Made e (cs ++ ds) s rs t → Between e cs ds s rs t
   -- Two callers lend ready devices that are the same but for marked pixels, and make the same list of calls. If no pixel of the
   -- panel is marked afterwards, a snapshot is the same on both, whatever the marked pixels held.
-  pub unmarked : (f : Format) → Saves f → (cs : List (e .Argument)) (m : Marks) (s t s′ t′ : Lending) (rs qs : List (e .Answer))
-      → EqualBut m s t → refusesEvery s ≡ 0 → Made e cs s rs s′ → Made e cs t qs t′
-      → ((x y : ℕ) → isPixelOf s′ Panel x y ≡ true → marksOf (callsOf e cs) (deviceOf s) m Panel x y → ⊥) → SameSnapshots f s′ t′
+  pub unmarked : (f : Format) → Saves f → (cs : List (e .Argument)) (m : Marks) (s t s′ t′ : FlatDevice) (rs qs : List (e .Answer))
+      → EqualBut m s t → refusesAllOn s ≡ 0 → Made e cs s rs s′ → Made e cs t qs t′
+      → ((x y : ℕ) → isPixelOn s′ Panel x y ≡ true → marksOf (callsOf e cs) (deviceOf s) m Panel x y → ⊥) → SameSnapshots f s′ t′

@@ -52,18 +52,14 @@ and-strokes {b} (t ∷ ss) s =
     }
 
 -- a range of a memory that fits the memories lent with a record
-pub memory-length : (b : GdiState) (ms : Memories) → Looks b ms → (k : Memory) → length (memoryOf ms k) ≡ lengthOf (b .«panel_len») (b .«store_len») k
+memory-length : (b : GdiState) (ms : Memories) → Looks b ms → (k : Memory) → length (memoryOf ms k) ≡ lengthOf (b .«panel_len») (b .«store_len») k
 memory-length b ms l PanelMemory = l .panel
 memory-length b ms l Store = l .store
 
 pub range-fits : (b : GdiState) (ms : Memories) → Looks b ms → (k : Memory) (p n : ℕ) → p + n ≤ lengthOf (b .«panel_len») (b .«store_len») k → p + n ≤ length (memoryOf ms k)
 range-fits b ms l k p n fits = rw (memory-length b ms l k) fits
 
--- a plan's paints and the record after it
-abbrev pub SteadyPlan : GdiState → Plan → Type 0
-SteadyPlan b p = Steady b (p .paint) (p .outcome .state)
-
-pub shape-steady : {b : GdiState} {p : Plan} → Shape b p → SteadyPlan b p
+pub shape-steady : {b : GdiState} {p : Plan} → Shape b p → Steady b (p .paint) (p .outcome .state)
 shape-steady {b} {p} (record-only u) = subst (λ (ps : List Paint). Steady b ps (p .outcome .state)) (sym (u .paint)) (still-steady (u .still))
 shape-steady {b} (strokes ss a i) = and-strokes ss (dirtied-by-still ss b)
 shape-steady {b} (blanks b′ a k p n clears x) =

@@ -48,7 +48,7 @@ run-kept (c ∷ cs) s =
     record { panel = k .panel ∙ j .panel; store = k .store ∙ j .store; looked = λ z. k .looked (j .looked z) }
 
 -- a device that refuses every call stays as it is
-pub step-refused : (c : Invocation) (s : Device) → (refusesAll s ≡ 0 → ⊥) → step c s ≡ s
+step-refused : (c : Invocation) (s : Device) → (refusesAll s ≡ 0 → ⊥) → step c s ≡ s
 unfolding plan
 step-refused c s ne = by (eqb (refusesAll s) 0) refl
   where
