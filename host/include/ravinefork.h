@@ -1,7 +1,7 @@
-/* The proved bench for hosts in C: GDI objects by handle, DCs, raster operations and an RGB565 panel.
+/* The proved device for hosts in C: GDI objects by handle, DCs, raster operations and an RGB565 panel.
    Link libhost.a, which `rt staticlib host` writes.
 
-   A bench is RAVINEFORK_RECORD numbers and two memories, the panel's and the pixel store, all kept by the host and lent with
+   A device is RAVINEFORK_RECORD numbers and two memories, the panel's and the pixel store, all kept by the host and lent with
    each call. The memories have the lengths that they had at open, must not overlap, and are kept by no function. What a function
    cannot serve it refuses with a number, and then changes no number and no byte. */
 #ifndef RAVINEFORK_H
@@ -14,13 +14,13 @@
 extern "C" {
 #endif
 
-/* A record: 9 numbers of the bench, 12 of the screen DC, and 14 for each of 256 slots. */
+/* A record: 9 numbers of the device, 12 of the screen DC, and 14 for each of 256 slots. */
 #define RAVINEFORK_RECORD 3605
 #define RAVINEFORK_MAX_OBJECTS 256
 #define RAVINEFORK_MAX_SIDE 4096
 #define RAVINEFORK_MAX_MEMORY 33554432
 
-/* The bench's numbers. */
+/* The device's numbers. */
 #define RAVINEFORK_PANEL_LEN 0
 #define RAVINEFORK_STORE_LEN 1
 #define RAVINEFORK_WIDTH 2
@@ -118,7 +118,7 @@ typedef struct ravinefork_reply {
     uint32_t fields[12];
 } ravinefork_reply;
 
-/* Opens a bench with a panel of these sides. The number of the refusal, 0 if there is none. Refused with 6, 8 or 7, the record has
+/* Opens a device with a panel of these sides. The number of the refusal, 0 if there is none. Refused with 6, 8 or 7, the record has
    lengths and sides 0 and no object, which every call refuses with 9; with 9, for a numbers_len that is not RAVINEFORK_RECORD,
    nothing changes. */
 uint32_t ravinefork_open(uint32_t *numbers, size_t numbers_len, uint8_t *panel, size_t panel_len, uint8_t *store,

@@ -55,7 +55,7 @@ extern "C" {
     fn ravinefork_perform(numbers: *mut u32, numbers_len: usize, call: HostCall, units: *const u16, units_len: usize, panel: *mut u8, panel_len: usize, store: *mut u8, store_len: usize) -> Reply;
 }
 
-/// Opens a bench; the number of the refusal, 0 if there is none.
+/// Opens a device; the number of the refusal, 0 if there is none.
 pub(crate) fn open(
     numbers: &mut [u32],
     panel: &mut [u8],

@@ -2,40 +2,40 @@
 //! operations and the RGB565 panel, in the static library that `rt staticlib
 //! host` writes.
 //!
-//! A [`Bench`] holds a [`Record`], 3,605 numbers, with a panel memory and a pixel
+//! A [`Device`] holds a [`Record`], 3,605 numbers, with a panel memory and a pixel
 //! store, and makes the calls under the original's names. A host that keeps its
 //! own memories lends them to `Record::perform` instead. What an operation cannot
 //! serve it refuses with a number, a [`Refusal`], and changes nothing. No input
 //! makes it panic.
 //!
 //! ```
-//! use ravinefork::{Area, Bench, Colorref, Handle, Point};
+//! use ravinefork::{Area, Device, Colorref, Handle, Point};
 //!
 //! # fn main() -> Result<(), ravinefork::Refusal> {
 //! let screen = Handle::GDI_SCREEN_DC;
-//! let mut bench = Bench::open(240, 320, 2 * 240 * 320, 64 * 1024)?;
+//! let mut device = Device::open(240, 320, 2 * 240 * 320, 64 * 1024)?;
 //!
-//! let blue = bench.create_solid_brush(Colorref(0x00FF_0000))?;
-//! bench.select_into(screen, blue)?;
-//! bench.rectangle(screen, Area { x: 10, y: 20, w: 100, h: 30 })?;
+//! let blue = device.create_solid_brush(Colorref(0x00FF_0000))?;
+//! device.select_into(screen, blue)?;
+//! device.rectangle(screen, Area { x: 10, y: 20, w: 100, h: 30 })?;
 //!
 //! let units: Vec<u16> = "MODULE 6".encode_utf16().collect();
-//! bench.set_text_color(screen, Colorref(0x00FF_FFFF))?;
-//! let advance = bench.text_out(screen, Point { x: 16, y: 30 }, &units)?;
+//! device.set_text_color(screen, Colorref(0x00FF_FFFF))?;
+//! let advance = device.text_out(screen, Point { x: 16, y: 30 }, &units)?;
 //!
 //! assert_eq!(advance, 48);
 //! // A mark for the rectangle's fill, one for its outline, one for the text.
-//! assert_eq!(bench.frame_counter(), 3);
+//! assert_eq!(device.frame_counter(), 3);
 //! // Next to the outline, in the row below it.
 //! let at = 2 * (240 * 21 + 11);
-//! assert_eq!(bench.panel()[at..at + 2], 0x001F_u16.to_le_bytes());
+//! assert_eq!(device.panel()[at..at + 2], 0x001F_u16.to_le_bytes());
 //! # Ok(())
 //! # }
 //! ```
 
 #![deny(missing_docs, unsafe_code)]
 
-mod bench;
+mod device;
 pub mod call;
 #[allow(unsafe_code)]
 mod ffi;
@@ -45,7 +45,7 @@ mod refusal;
 pub mod rop3;
 pub mod snapshot;
 
-pub use bench::Bench;
+pub use device::Device;
 pub use ffi::{HostCall, Reply};
 pub use object::{
     Area, Bitmap, Brush, Colorref, Dc, DcSurface, Font, GdiObject, Handle, Pen, Point, Rgb565, Slot,

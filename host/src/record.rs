@@ -1,4 +1,4 @@
-//! The bench record as the numbers that a host keeps.
+//! The device record as the numbers that a host keeps.
 
 use std::fmt;
 use std::ops::Range;
@@ -8,7 +8,7 @@ use crate::object::{Bitmap, Dc, GdiObject, Handle, Slot};
 use crate::refusal::Refusal;
 use crate::{DC, RECORD, SCREEN, SLOT, SLOTS};
 
-/// A bench record: the numbers of a bench, for hosts that lend their own
+/// A device record: the numbers of a device, for hosts that lend their own
 /// memories. The panel memory and the store go with each call, and have the
 /// lengths that they had at [`open`](Record::open).
 ///
@@ -26,7 +26,7 @@ impl Record {
         Record { numbers: vec![0; RECORD].into() }
     }
 
-    /// The record that these numbers are. A bench is saved and loaded by them,
+    /// The record that these numbers are. A device is saved and loaded by them,
     /// together with its memories.
     pub fn from_numbers(numbers: impl Into<Box<[u32]>>) -> Record {
         Record { numbers: numbers.into() }
@@ -42,11 +42,11 @@ impl Record {
         self.numbers
     }
 
-    /// Opens a bench on these memories, with a panel of these sides: it has no
+    /// Opens a device on these memories, with a panel of these sides: it has no
     /// created object, and the panel and the stock bitmap's pixel are black.
     ///
     /// Refused with 6, 8 or 7, the record's lengths and sides are 0, it has no
-    /// object, and all else is as on a fresh bench. With 9, if there are not
+    /// object, and all else is as on a fresh device. With 9, if there are not
     /// [`RECORD`] numbers, nothing changes.
     pub fn open(
         &mut self,

@@ -2,7 +2,7 @@
 
 #![allow(unsafe_code)]
 
-use crate::bench::Bench;
+use crate::device::Device;
 use crate::record::Record;
 use crate::refusal::Refusal;
 use crate::MAX_SIDE;
@@ -68,7 +68,7 @@ impl Record {
     }
 }
 
-impl<M: AsRef<[u8]> + AsMut<[u8]>> Bench<M> {
+impl<M: AsRef<[u8]> + AsMut<[u8]>> Device<M> {
     /// The panel's pixels as red, green, blue and 255, row by row. Refused with
     /// 9 or 8.
     pub fn snapshot_rgba8888(&self) -> Result<Vec<u8>, Refusal> {
@@ -91,20 +91,20 @@ mod tests {
     use crate::{rop3, Area, Handle, Rgb565};
 
     /// A red pixel, and one with all its bits inverted.
-    fn two() -> Bench {
-        let mut bench = Bench::open(2, 1, 4, 2).expect("a bench");
-        bench.panel_fill(Rgb565(0xF800)).expect("a fill");
+    fn two() -> Device {
+        let mut device = Device::open(2, 1, 4, 2).expect("a device");
+        device.panel_fill(Rgb565(0xF800)).expect("a fill");
         let area = Area { x: 1, y: 0, w: 1, h: 1 };
-        bench.pattern_fill(Handle::GDI_SCREEN_DC, area, rop3::DSTINVERT).expect("a fill");
-        bench
+        device.pattern_fill(Handle::GDI_SCREEN_DC, area, rop3::DSTINVERT).expect("a fill");
+        device
     }
 
     #[test]
     fn pictures() {
-        let bench = two();
-        let ppm = bench.snapshot_ppm().expect("a picture");
+        let device = two();
+        let ppm = device.snapshot_ppm().expect("a picture");
         assert_eq!(ppm, b"P6\n2 1\n255\n\xFF\0\0\0\xFF\xFF");
-        let rgba = bench.snapshot_rgba8888().expect("a picture");
+        let rgba = device.snapshot_rgba8888().expect("a picture");
         assert_eq!(rgba, [0xFF, 0, 0, 0xFF, 0, 0xFF, 0xFF, 0xFF]);
     }
 
@@ -121,11 +121,11 @@ mod tests {
 
     #[test]
     fn refusals() {
-        let bench = two();
-        let record = bench.record();
+        let device = two();
+        let record = device.record();
         for len in [0, 7, 9] {
             let mut out = vec![0x5A; len];
-            let refused = record.snapshot_rgba8888_into(bench.panel(), &mut out);
+            let refused = record.snapshot_rgba8888_into(device.panel(), &mut out);
             assert_eq!(refused, Err(Refusal::LENGTH));
             assert_eq!(out, vec![0x5A; len]);
         }

@@ -5,7 +5,7 @@
 mod random;
 
 use random::Random;
-use ravinefork::{call, Bench, Colorref, HostCall, Record, Refusal};
+use ravinefork::{call, Device, Colorref, HostCall, Record, Refusal};
 
 /// Rounds, and calls on each record.
 const ROUNDS: u32 = 400;
@@ -14,30 +14,30 @@ const CALLS: u32 = 60;
 /// Bytes around each lent memory.
 const AROUND: usize = 64;
 
-/// A bench with a few objects, as numbers and memories.
-fn bench(random: &mut Random) -> Result<(Record, Vec<u8>, Vec<u8>), Refusal> {
+/// A device with a few objects, as numbers and memories.
+fn device(random: &mut Random) -> Result<(Record, Vec<u8>, Vec<u8>), Refusal> {
     let (width, height) = (1 + random.below(30), 1 + random.below(30));
     let panel_len = (2 * width * height + random.below(900)) as usize;
     let store_len = (2 + random.below(3000)) as usize;
-    let mut bench = Bench::open(width, height, panel_len, store_len)?;
-    let dc = bench.create_memory_dc()?;
+    let mut device = Device::open(width, height, panel_len, store_len)?;
+    let dc = device.create_memory_dc()?;
     for _ in 0..random.below(8) {
         match random.below(5) {
-            0 => _ = bench.create_memory_dc()?,
-            1 => _ = bench.create_solid_brush(Colorref(random.number()))?,
-            2 => _ = bench.create_pen(Colorref(random.number()), 1)?,
-            3 => _ = bench.create_font(random.coordinate())?,
+            0 => _ = device.create_memory_dc()?,
+            1 => _ = device.create_solid_brush(Colorref(random.number()))?,
+            2 => _ = device.create_pen(Colorref(random.number()), 1)?,
+            3 => _ = device.create_font(random.coordinate())?,
             _ => {
                 // It may not fit.
                 if let Ok(bitmap) =
-                    bench.create_compatible_bitmap(random.below(20), random.below(20))
+                    device.create_compatible_bitmap(random.below(20), random.below(20))
                 {
-                    bench.select_into(dc, bitmap)?;
+                    device.select_into(dc, bitmap)?;
                 }
             }
         }
     }
-    let (record, panel, store) = bench.into_parts();
+    let (record, panel, store) = device.into_parts();
     Ok((record, panel.into(), store.into()))
 }
 
@@ -61,7 +61,7 @@ fn any_numbers() {
     let mut random = Random::new(1);
     let mut counts = std::collections::BTreeMap::new();
     for _ in 0..ROUNDS {
-        let (mut record, panel, store) = bench(&mut random).expect("a bench");
+        let (mut record, panel, store) = device(&mut random).expect("a device");
         let (mut panel, mut store) = (guarded(&panel), guarded(&store));
         for _ in 0..CALLS {
             let mut numbers = record.as_numbers().to_vec();

@@ -6,7 +6,7 @@ use std::path::Path;
 use std::process::Command;
 
 use ravinefork::{
-    call, rop3, Area, Bench, Colorref, Handle, HostCall, Point, Refusal, Reply, MAX_MEMORY,
+    call, rop3, Area, Device, Colorref, Handle, HostCall, Point, Refusal, Reply, MAX_MEMORY,
     MAX_OBJECTS, MAX_SIDE, NO_OBJECT, RECORD, SCREEN, SLOTS,
 };
 
@@ -60,7 +60,7 @@ fn compiled(program: &Path, define: &str) -> Option<bool> {
         .args(["-std=c11", "-Wall", "-Wextra", "-Werror", "-O1", "-g"])
         .arg(format!("-DLAYOUT={define}"))
         .arg(format!("-I{FOLDER}/include"))
-        .arg(format!("{FOLDER}/tests/bench.c"))
+        .arg(format!("{FOLDER}/tests/device.c"))
         .arg(format!("{FOLDER}/../target/staticlib/libhost.a"))
         .arg("-o")
         .arg(program)
@@ -77,17 +77,17 @@ fn compiled(program: &Path, define: &str) -> Option<bool> {
     }
 }
 
-/// The same bench in Rust, as the program prints its panel.
+/// The same device in Rust, as the program prints its panel.
 fn picture() -> Result<String, Refusal> {
     let screen = Handle::GDI_SCREEN_DC;
-    let mut bench = Bench::open(24, 16, 2 * 24 * 16, 64)?;
-    let pen = bench.create_pen(Colorref(0x0000_00FF), 3)?;
-    bench.select_into(screen, pen)?;
-    bench.rectangle(screen, Area { x: 1, y: 1, w: 22, h: 14 })?;
-    bench.text_out(screen, Point { x: 4, y: 4 }, &[0x43, 0x31, 0x31])?;
+    let mut device = Device::open(24, 16, 2 * 24 * 16, 64)?;
+    let pen = device.create_pen(Colorref(0x0000_00FF), 3)?;
+    device.select_into(screen, pen)?;
+    device.rectangle(screen, Area { x: 1, y: 1, w: 22, h: 14 })?;
+    device.text_out(screen, Point { x: 4, y: 4 }, &[0x43, 0x31, 0x31])?;
     let area = Area { x: -1, y: 12, w: 9, h: 9 };
-    bench.blit(screen, area, screen, Point { x: 3, y: 4 }, rop3::SRCCOPY)?;
-    let rows = bench.panel_pixels().chunks_exact(48).map(|row| {
+    device.blit(screen, area, screen, Point { x: 3, y: 4 }, rop3::SRCCOPY)?;
+    let rows = device.panel_pixels().chunks_exact(48).map(|row| {
         let pixels = row.chunks_exact(2).map(|pair| match [pair[0], pair[1]] {
             [0xFF, 0xFF] => '.',
             [0x00, 0xF8] => 'r',
@@ -101,7 +101,7 @@ fn picture() -> Result<String, Refusal> {
 
 #[test]
 fn a_host_in_c() {
-    let program = Path::new(env!("CARGO_TARGET_TMPDIR")).join("bench");
+    let program = Path::new(env!("CARGO_TARGET_TMPDIR")).join("device");
     let Some(good) = compiled(&program, &layout()) else { return };
     assert!(good, "the program does not compile");
     let output = Command::new(&program).output().expect("the program");

@@ -5,7 +5,7 @@
 use std::fs;
 
 use ravinefork::{
-    call, rop3, Area, Bench, DcSurface, Handle, HostCall, Point, Record, DC, RECORD, SCREEN, SLOT,
+    call, rop3, Area, Device, DcSurface, Handle, HostCall, Point, Record, DC, RECORD, SCREEN, SLOT,
     SLOTS,
 };
 
@@ -78,10 +78,10 @@ impl Stream<'_> {
     }
 }
 
-/// The screen DC of a fresh bench, with this surface.
+/// The screen DC of a fresh device, with this surface.
 fn screen(surface: u32) -> [u32; DC] {
     let mut record = Record::new();
-    record.open(1, 1, &mut [0; 2], &mut [0; 2]).expect("a bench");
+    record.open(1, 1, &mut [0; 2], &mut [0; 2]).expect("a device");
     let mut screen: [u32; DC] =
         record.as_numbers()[SCREEN..SLOTS].try_into().expect("the numbers of a DC");
     screen[0] = surface;
@@ -138,22 +138,22 @@ fn the_sample() {
 #[test]
 fn a_screen_dc_that_says_memory_paints_the_panel() {
     let dc = Handle::GDI_SCREEN_DC;
-    let mut bench = Bench::open(2, 2, 8, 10).expect("a bench");
-    let bitmap = bench.create_compatible_bitmap(2, 2).expect("a bitmap");
-    bench.select_into(dc, bitmap).expect("a selection");
-    let (record, panel, store) = bench.into_parts();
+    let mut device = Device::open(2, 2, 8, 10).expect("a device");
+    let bitmap = device.create_compatible_bitmap(2, 2).expect("a bitmap");
+    device.select_into(dc, bitmap).expect("a selection");
+    let (record, panel, store) = device.into_parts();
     let mut numbers = record.into_numbers();
     numbers[SCREEN] = MEMORY;
-    let mut bench = Bench::from_parts(Record::from_numbers(numbers), panel, store);
+    let mut device = Device::from_parts(Record::from_numbers(numbers), panel, store);
     let column = Area { x: 0, y: 0, w: 1, h: 2 };
-    assert_eq!(bench.pattern_fill(dc, column, rop3::WHITENESS), Ok(()));
-    assert_eq!(bench.panel(), [0xFF, 0xFF, 0, 0, 0xFF, 0xFF, 0, 0]);
+    assert_eq!(device.pattern_fill(dc, column, rop3::WHITENESS), Ok(()));
+    assert_eq!(device.panel(), [0xFF, 0xFF, 0, 0, 0xFF, 0xFF, 0, 0]);
     // As a source as well.
     let corner = Area { x: 1, y: 1, w: 1, h: 1 };
-    assert_eq!(bench.blit(dc, corner, dc, Point { x: 0, y: 0 }, rop3::SRCCOPY), Ok(()));
-    assert_eq!(bench.panel(), [0xFF, 0xFF, 0, 0, 0xFF, 0xFF, 0xFF, 0xFF]);
-    assert_eq!(bench.store(), [0; 10]);
-    assert_eq!(bench.frame_counter(), 2);
-    let screen = bench.record().screen();
+    assert_eq!(device.blit(dc, corner, dc, Point { x: 0, y: 0 }, rop3::SRCCOPY), Ok(()));
+    assert_eq!(device.panel(), [0xFF, 0xFF, 0, 0, 0xFF, 0xFF, 0xFF, 0xFF]);
+    assert_eq!(device.store(), [0; 10]);
+    assert_eq!(device.frame_counter(), 2);
+    let screen = device.record().screen();
     assert_eq!((screen.surface, screen.selected_bitmap), (DcSurface::Memory, Some(bitmap)));
 }

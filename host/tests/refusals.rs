@@ -3,7 +3,7 @@
 
 use pocket_kernel::gdi::{self, GdiState};
 use ravinefork::{
-    call, rop3, Area, Bench, Bitmap, Brush, Colorref, Dc, DcSurface, Font, GdiObject, Handle,
+    call, rop3, Area, Device, Bitmap, Brush, Colorref, Dc, DcSurface, Font, GdiObject, Handle,
     HostCall, Pen, Point, Record, Refusal, Reply, Rgb565, Slot, MAX_MEMORY, RECORD, SLOT, SLOTS,
 };
 
@@ -13,18 +13,18 @@ const AT: Point = Point { x: 0, y: 0 };
 
 /// A panel of 4 by 3 in 30 bytes, a store of 64, an object of each kind: a DC
 /// with a bitmap, a brush, a pen, a font.
-fn bench() -> (Bench, [Handle; 5]) {
-    let mut bench = Bench::open(4, 3, 30, 64).expect("a bench");
+fn device() -> (Device, [Handle; 5]) {
+    let mut device = Device::open(4, 3, 30, 64).expect("a device");
     let handles = [
-        bench.create_memory_dc(),
-        bench.create_compatible_bitmap(3, 5),
-        bench.create_solid_brush(Colorref(0x0012_3456)),
-        bench.create_pen(Colorref(0x00AB_CDEF), 7),
-        bench.create_font(-9),
+        device.create_memory_dc(),
+        device.create_compatible_bitmap(3, 5),
+        device.create_solid_brush(Colorref(0x0012_3456)),
+        device.create_pen(Colorref(0x00AB_CDEF), 7),
+        device.create_font(-9),
     ]
     .map(|made| made.expect("an object"));
-    bench.select_into(handles[0], handles[1]).expect("a selection");
-    (bench, handles)
+    device.select_into(handles[0], handles[1]).expect("a selection");
+    (device, handles)
 }
 
 /// A call of every kind.
@@ -58,14 +58,14 @@ fn read_all(record: &Record) {
     }
     _ = (record.panel_place(), record.bitmap(Handle::STOCK_DEFAULT_BITMAP));
     _ = format!("{record:?}");
-    let lent: Bench<Vec<u8>> = Bench::from_parts(record.clone(), vec![0; 3], vec![0; 1]);
+    let lent: Device<Vec<u8>> = Device::from_parts(record.clone(), vec![0; 3], vec![0; 1]);
     _ = (lent.panel_pixels(), lent.bitmap_pixels(Handle::GDI_HANDLE_BASE));
 }
 
 #[test]
 fn numbers_that_are_no_record() {
-    let (bench, _) = bench();
-    let good = bench.record().as_numbers().to_vec();
+    let (device, _) = device();
+    let good = device.record().as_numbers().to_vec();
     let wrong = |changes: &[(usize, u32)], number, of: &str| {
         let mut numbers = good.clone();
         changes.iter().for_each(|&(i, n)| numbers[i] = n);
@@ -106,8 +106,8 @@ fn numbers_that_are_no_record() {
 
 #[test]
 fn records_that_are_unsound() {
-    let (bench, [_, bitmap, ..]) = bench();
-    let good = bench.record().as_numbers().to_vec();
+    let (device, [_, bitmap, ..]) = device();
+    let good = device.record().as_numbers().to_vec();
     let slot = |i| SLOTS + SLOT * i;
     let cases = [
         (0, MAX_MEMORY as u32 + 1, "panel memory above the limit"),
@@ -146,15 +146,15 @@ fn records_that_are_unsound() {
 
 #[test]
 fn numbers_that_are_no_call() {
-    let (bench, _) = bench();
+    let (device, _) = device();
     let of = |call, a| HostCall { call, dc: SCREEN_DC.0, a, ..HostCall::default() };
     let none = [of(0, 0), of(19, 0), of(255, 0), of(u32::MAX, 0), of(call::SET_BK_MODE, 2)];
     let more = [of(call::SET_BK_MODE, u32::MAX), of(call::PANEL_FILL, 0x1_0000)];
     for call in none.into_iter().chain(more).chain([of(call::PANEL_FILL, u32::MAX)]) {
-        let mut after = bench.clone();
+        let mut after = device.clone();
         assert_eq!(after.perform(&call, &[]), refused(255), "{call:?}");
-        assert_eq!(after.record(), bench.record());
-        assert_eq!((after.panel(), after.store()), (bench.panel(), bench.store()));
+        assert_eq!(after.record(), device.record());
+        assert_eq!((after.panel(), after.store()), (device.panel(), device.store()));
         // It is not looked at whether the numbers are a record.
         let mut record = Record::from_numbers([]);
         assert_eq!(record.perform(&call, &[], &mut [], &mut []), refused(255));
@@ -163,11 +163,11 @@ fn numbers_that_are_no_call() {
 
 #[test]
 fn memories_of_another_length() {
-    let (bench, _) = bench();
-    let numbers = bench.record().as_numbers();
+    let (device, _) = device();
+    let numbers = device.record().as_numbers();
     for (panel_len, store_len) in [(29, 64), (31, 64), (30, 63), (30, 65), (0, 0), (64, 30)] {
         for call in calls() {
-            let mut record = bench.record().clone();
+            let mut record = device.record().clone();
             let (mut panel, mut store) = (vec![0x5A; panel_len], vec![0xA5; store_len]);
             let reply = record.perform(&call, &[0x41], &mut panel, &mut store);
             assert_eq!(reply, refused(8), "{call:?}");
@@ -180,7 +180,7 @@ fn memories_of_another_length() {
 
 #[test]
 fn open() {
-    let refusal = |w, h, panel, store| Bench::open(w, h, panel, store).err();
+    let refusal = |w, h, panel, store| Device::open(w, h, panel, store).err();
     assert_eq!(refusal(4, 3, 24, 2), None);
     assert_eq!(refusal(4096, 1, 8192, 2), None);
     assert_eq!(refusal(1, 1, MAX_MEMORY, MAX_MEMORY), None);
@@ -197,7 +197,7 @@ fn open() {
 }
 
 #[test]
-fn a_refused_open_leaves_a_record_without_a_bench() {
+fn a_refused_open_leaves_a_record_without_a_device() {
     let (mut panel, mut store) = ([0x5A; 23], [0xA5; 4]);
     let mut record = Record::from_numbers(vec![7; RECORD]);
     assert_eq!(record.open(4, 3, &mut panel, &mut store), Err(Refusal::TOO_SHORT));
@@ -217,97 +217,97 @@ fn a_refused_open_leaves_a_record_without_a_bench() {
 #[test]
 fn an_accepted_open_blackens_the_panel_and_the_stock_pixel_only() {
     let (mut panel, mut store) = ([0x5A; 30], [0xA5; 4]);
-    let bench = Bench::open_on(4, 3, panel.as_mut_slice(), store.as_mut_slice()).expect("a bench");
-    assert_eq!(bench.panel_pixels(), [0; 24]);
-    assert_eq!(bench.bitmap_pixels(Handle::STOCK_DEFAULT_BITMAP), Some([0; 2].as_slice()));
+    let device = Device::open_on(4, 3, panel.as_mut_slice(), store.as_mut_slice()).expect("a device");
+    assert_eq!(device.panel_pixels(), [0; 24]);
+    assert_eq!(device.bitmap_pixels(Handle::STOCK_DEFAULT_BITMAP), Some([0; 2].as_slice()));
     assert_eq!(panel[24..], [0x5A; 6]);
     assert_eq!(store, [0, 0, 0xA5, 0xA5]);
 }
 
 #[test]
 fn each_refusal_of_a_call() {
-    let (mut bench, [dc, bitmap, brush, ..]) = bench();
-    let bare = bench.create_memory_dc().expect("a DC");
-    let before = bench.clone();
+    let (mut device, [dc, bitmap, brush, ..]) = device();
+    let bare = device.create_memory_dc().expect("a DC");
+    let before = device.clone();
     let none = Handle(1);
     // 1: no such DC.
     for handle in [none, Handle(0), bitmap, brush, Handle::STOCK_DEFAULT_BITMAP] {
-        assert_eq!(bench.set_text_color(handle, Colorref(1)), Err(Refusal::NO_DC));
-        assert_eq!(bench.set_text_align(handle, 1), Err(Refusal::NO_DC));
-        assert_eq!(bench.set_bk_color(handle, Colorref(1)), Err(Refusal::NO_DC));
-        assert_eq!(bench.set_bk_mode(handle, true), Err(Refusal::NO_DC));
-        assert_eq!(bench.pattern_fill(handle, AREA, rop3::PATCOPY), Err(Refusal::NO_DC));
-        assert_eq!(bench.rectangle(handle, AREA), Err(Refusal::NO_DC));
-        assert_eq!(bench.text_out(handle, AT, &[0x41]), Err(Refusal::NO_DC));
-        assert_eq!(bench.blit(handle, AREA, none, AT, rop3::SRCCOPY), Err(Refusal::NO_DC));
+        assert_eq!(device.set_text_color(handle, Colorref(1)), Err(Refusal::NO_DC));
+        assert_eq!(device.set_text_align(handle, 1), Err(Refusal::NO_DC));
+        assert_eq!(device.set_bk_color(handle, Colorref(1)), Err(Refusal::NO_DC));
+        assert_eq!(device.set_bk_mode(handle, true), Err(Refusal::NO_DC));
+        assert_eq!(device.pattern_fill(handle, AREA, rop3::PATCOPY), Err(Refusal::NO_DC));
+        assert_eq!(device.rectangle(handle, AREA), Err(Refusal::NO_DC));
+        assert_eq!(device.text_out(handle, AT, &[0x41]), Err(Refusal::NO_DC));
+        assert_eq!(device.blit(handle, AREA, none, AT, rop3::SRCCOPY), Err(Refusal::NO_DC));
     }
     // 2: no surface.
-    assert_eq!(bench.pattern_fill(bare, AREA, rop3::PATCOPY), Err(Refusal::NO_SURFACE));
-    assert_eq!(bench.rectangle(bare, AREA), Err(Refusal::NO_SURFACE));
-    assert_eq!(bench.text_out(bare, AT, &[0x41; 65_536]), Err(Refusal::NO_SURFACE));
-    assert_eq!(bench.blit(bare, AREA, none, AT, rop3::SRCCOPY), Err(Refusal::NO_SURFACE));
+    assert_eq!(device.pattern_fill(bare, AREA, rop3::PATCOPY), Err(Refusal::NO_SURFACE));
+    assert_eq!(device.rectangle(bare, AREA), Err(Refusal::NO_SURFACE));
+    assert_eq!(device.text_out(bare, AT, &[0x41; 65_536]), Err(Refusal::NO_SURFACE));
+    assert_eq!(device.blit(bare, AREA, none, AT, rop3::SRCCOPY), Err(Refusal::NO_SURFACE));
     // 3 and 4: the same for the source, unless the code ignores it.
-    let source = bench.blit(dc, AREA, none, AT, rop3::SRCCOPY);
+    let source = device.blit(dc, AREA, none, AT, rop3::SRCCOPY);
     assert_eq!(source, Err(Refusal::NO_SOURCE_DC));
-    let source = bench.blit(dc, AREA, bare, AT, rop3::SRCCOPY);
+    let source = device.blit(dc, AREA, bare, AT, rop3::SRCCOPY);
     assert_eq!(source, Err(Refusal::NO_SOURCE_SURFACE));
-    assert_eq!(bench.clone().blit(dc, AREA, none, AT, rop3::PATINVERT), Ok(()));
+    assert_eq!(device.clone().blit(dc, AREA, none, AT, rop3::PATINVERT), Ok(()));
     // 6, and 7 with 32 of 64 bytes taken.
-    assert_eq!(bench.create_compatible_bitmap(4097, 0), Err(Refusal::SIDE));
-    assert_eq!(bench.create_compatible_bitmap(1, u32::MAX), Err(Refusal::SIDE));
-    assert_eq!(bench.create_compatible_bitmap(1, 17), Err(Refusal::TOO_SHORT));
-    assert_eq!(bench.resize(4097, 1), Err(Refusal::SIDE));
-    assert_eq!(bench.resize(4, 4), Err(Refusal::TOO_SHORT));
+    assert_eq!(device.create_compatible_bitmap(4097, 0), Err(Refusal::SIDE));
+    assert_eq!(device.create_compatible_bitmap(1, u32::MAX), Err(Refusal::SIDE));
+    assert_eq!(device.create_compatible_bitmap(1, 17), Err(Refusal::TOO_SHORT));
+    assert_eq!(device.resize(4097, 1), Err(Refusal::SIDE));
+    assert_eq!(device.resize(4, 4), Err(Refusal::TOO_SHORT));
     // 10.
-    assert_eq!(bench.text_out(dc, AT, &[0x41; 65_536]), Err(Refusal::TEXT_TOO_LONG));
+    assert_eq!(device.text_out(dc, AT, &[0x41; 65_536]), Err(Refusal::TEXT_TOO_LONG));
     // None of this changed anything.
-    assert_eq!(bench.record(), before.record());
-    assert_eq!((bench.panel(), bench.store()), (before.panel(), before.store()));
+    assert_eq!(device.record(), before.record());
+    assert_eq!((device.panel(), device.store()), (before.panel(), before.store()));
     // Just what is not refused.
-    assert_eq!(bench.text_out(dc, AT, &[0x41; 65_535]), Ok(6 * 65_535));
+    assert_eq!(device.text_out(dc, AT, &[0x41; 65_535]), Ok(6 * 65_535));
     let stopped = [[0x41; 65_535].as_slice(), &[0; 9]].concat();
-    assert_eq!(bench.text_out(dc, AT, &stopped), Ok(6 * 65_535));
-    assert_eq!((bench.resize(0, 9999), bench.resize(5, 3)), (Ok(()), Ok(())));
-    let tall = bench.create_compatible_bitmap(0, 16).expect("as much as is left");
+    assert_eq!(device.text_out(dc, AT, &stopped), Ok(6 * 65_535));
+    assert_eq!((device.resize(0, 9999), device.resize(5, 3)), (Ok(()), Ok(())));
+    let tall = device.create_compatible_bitmap(0, 16).expect("as much as is left");
     let sides = Bitmap { width: 1, height: 16, host_dirty: false };
-    assert_eq!(bench.get(tall), Some(GdiObject::Bitmap(sides)));
+    assert_eq!(device.get(tall), Some(GdiObject::Bitmap(sides)));
 }
 
 #[test]
 fn the_257th_object() {
-    let mut bench = Bench::open(1, 1, 2, 2 + 2 * 256).expect("a bench");
+    let mut device = Device::open(1, 1, 2, 2 + 2 * 256).expect("a device");
     for i in 0..256 {
         let handle = Handle(Handle::GDI_HANDLE_BASE.0 + i);
-        assert_eq!(bench.create_compatible_bitmap(1, 1), Ok(handle));
+        assert_eq!(device.create_compatible_bitmap(1, 1), Ok(handle));
     }
-    let before = bench.clone();
+    let before = device.clone();
     // 6 before 5, 5 before 7.
-    assert_eq!(bench.create_compatible_bitmap(4097, 1), Err(Refusal::SIDE));
-    assert_eq!(bench.create_compatible_bitmap(9, 9), Err(Refusal::TOO_MANY_OBJECTS));
-    assert_eq!(bench.create_memory_dc(), Err(Refusal::TOO_MANY_OBJECTS));
-    assert_eq!(bench.create_solid_brush(Colorref(0)), Err(Refusal::TOO_MANY_OBJECTS));
-    assert_eq!(bench.create_pen(Colorref(0), 1), Err(Refusal::TOO_MANY_OBJECTS));
-    assert_eq!(bench.create_font(1), Err(Refusal::TOO_MANY_OBJECTS));
-    assert_eq!(bench.record(), before.record());
+    assert_eq!(device.create_compatible_bitmap(4097, 1), Err(Refusal::SIDE));
+    assert_eq!(device.create_compatible_bitmap(9, 9), Err(Refusal::TOO_MANY_OBJECTS));
+    assert_eq!(device.create_memory_dc(), Err(Refusal::TOO_MANY_OBJECTS));
+    assert_eq!(device.create_solid_brush(Colorref(0)), Err(Refusal::TOO_MANY_OBJECTS));
+    assert_eq!(device.create_pen(Colorref(0), 1), Err(Refusal::TOO_MANY_OBJECTS));
+    assert_eq!(device.create_font(1), Err(Refusal::TOO_MANY_OBJECTS));
+    assert_eq!(device.record(), before.record());
     // The last one is at the store's end; without the first it is not.
     let last = Handle(Handle::GDI_HANDLE_BASE.0 + 255);
-    assert_eq!(bench.record().bitmap_place(last), Some(512..514));
-    assert_eq!(bench.delete(Handle::GDI_HANDLE_BASE), Ok(true));
-    assert_eq!(bench.record().bitmap_place(last), Some(510..512));
-    assert_eq!(bench.create_font(1), Ok(Handle(last.0 + 1)));
+    assert_eq!(device.record().bitmap_place(last), Some(512..514));
+    assert_eq!(device.delete(Handle::GDI_HANDLE_BASE), Ok(true));
+    assert_eq!(device.record().bitmap_place(last), Some(510..512));
+    assert_eq!(device.create_font(1), Ok(Handle(last.0 + 1)));
 }
 
 #[test]
 fn removed_objects() {
-    let (mut bench, [dc, bitmap, brush, pen, font]) = bench();
-    bench.set_text_color(dc, Colorref(5)).expect("a setting");
-    bench.set_text_align(dc, 6).expect("a setting");
-    bench.set_bk_color(dc, Colorref(7)).expect("a setting");
-    bench.set_bk_mode(dc, true).expect("a setting");
-    bench.select_into(dc, brush).expect("a selection");
-    bench.select_into(dc, pen).expect("a selection");
-    bench.select_into(dc, font).expect("a selection");
-    bench.rectangle(dc, AREA).expect("a rectangle");
+    let (mut device, [dc, bitmap, brush, pen, font]) = device();
+    device.set_text_color(dc, Colorref(5)).expect("a setting");
+    device.set_text_align(dc, 6).expect("a setting");
+    device.set_bk_color(dc, Colorref(7)).expect("a setting");
+    device.set_bk_mode(dc, true).expect("a setting");
+    device.select_into(dc, brush).expect("a selection");
+    device.select_into(dc, pen).expect("a selection");
+    device.select_into(dc, font).expect("a selection");
+    device.rectangle(dc, AREA).expect("a rectangle");
     let record = Dc {
         surface: DcSurface::Memory,
         selected_bitmap: Some(bitmap),
@@ -329,64 +329,64 @@ fn removed_objects() {
         (font, GdiObject::Font(Font { height: -9 })),
     ];
     let slots = objects.map(|(handle, object)| Slot { handle, object });
-    assert_eq!(bench.record().slots().collect::<Vec<_>>(), slots);
-    assert_eq!(bench.record().slot(5), None);
+    assert_eq!(device.record().slots().collect::<Vec<_>>(), slots);
+    assert_eq!(device.record().slot(5), None);
     for (handle, object) in objects {
-        assert_eq!(bench.get(handle), Some(object));
-        assert_eq!(bench.remove(handle), Ok(Some(object)));
-        assert_eq!(bench.get(handle), None);
-        assert_eq!(bench.remove(handle), Ok(None));
-        assert_eq!(bench.delete(handle), Ok(false));
+        assert_eq!(device.get(handle), Some(object));
+        assert_eq!(device.remove(handle), Ok(Some(object)));
+        assert_eq!(device.get(handle), None);
+        assert_eq!(device.remove(handle), Ok(None));
+        assert_eq!(device.delete(handle), Ok(false));
     }
-    assert_eq!(bench.record().count(), 0);
-    assert!(bench.store().iter().all(|&byte| byte == 0));
-    assert_eq!(bench.remove(SCREEN_DC), Ok(None));
-    assert_eq!(bench.delete(SCREEN_DC), Ok(true));
+    assert_eq!(device.record().count(), 0);
+    assert!(device.store().iter().all(|&byte| byte == 0));
+    assert_eq!(device.remove(SCREEN_DC), Ok(None));
+    assert_eq!(device.delete(SCREEN_DC), Ok(true));
 }
 
 #[test]
 fn counters_go_round() {
-    let (bench, _) = bench();
-    let (record, panel, store) = bench.into_parts();
+    let (device, _) = device();
+    let (record, panel, store) = device.into_parts();
     let mut numbers = record.into_numbers();
     numbers[4..7].copy_from_slice(&[u32::MAX - 1, u32::MAX, u32::MAX - 1]);
-    let mut bench = Bench::from_parts(Record::from_numbers(numbers), panel, store);
-    assert_eq!(bench.frame_counter(), u64::MAX - 1);
+    let mut device = Device::from_parts(Record::from_numbers(numbers), panel, store);
+    assert_eq!(device.frame_counter(), u64::MAX - 1);
     for frames in [u64::MAX, 0, 1] {
-        bench.panel_fill(Rgb565(1)).expect("a fill");
-        assert_eq!(bench.frame_counter(), frames);
+        device.panel_fill(Rgb565(1)).expect("a fill");
+        assert_eq!(device.frame_counter(), frames);
     }
     // Two at once.
-    let (record, panel, store) = bench.into_parts();
+    let (record, panel, store) = device.into_parts();
     let mut numbers = record.into_numbers();
     numbers[4..6].fill(u32::MAX);
-    let mut bench = Bench::from_parts(Record::from_numbers(numbers), panel, store);
-    bench.rectangle(SCREEN_DC, AREA).expect("a rectangle");
-    assert_eq!(bench.frame_counter(), 1);
+    let mut device = Device::from_parts(Record::from_numbers(numbers), panel, store);
+    device.rectangle(SCREEN_DC, AREA).expect("a rectangle");
+    assert_eq!(device.frame_counter(), 1);
     // The low half alone.
-    let (record, panel, store) = bench.into_parts();
+    let (record, panel, store) = device.into_parts();
     let mut numbers = record.into_numbers();
     numbers[4..6].copy_from_slice(&[u32::MAX, 6]);
-    let mut bench = Bench::from_parts(Record::from_numbers(numbers), panel, store);
-    bench.panel_fill(Rgb565(1)).expect("a fill");
-    assert_eq!(bench.frame_counter(), 7 << 32);
+    let mut device = Device::from_parts(Record::from_numbers(numbers), panel, store);
+    device.panel_fill(Rgb565(1)).expect("a fill");
+    assert_eq!(device.frame_counter(), 7 << 32);
     // Handles pass 0.
     for (handle, next) in [(u32::MAX - 1, u32::MAX), (u32::MAX, 0), (1, 2)] {
-        assert_eq!(bench.create_font(0), Ok(Handle(handle)));
-        assert_eq!(bench.record().next_handle(), Handle(next));
+        assert_eq!(device.create_font(0), Ok(Handle(handle)));
+        assert_eq!(device.record().next_handle(), Handle(next));
     }
 }
 
 #[test]
 fn handles_pass_those_that_are_taken() {
-    let (bench, [dc, ..]) = bench();
-    let (record, panel, store) = bench.into_parts();
+    let (device, [dc, ..]) = device();
+    let (record, panel, store) = device.into_parts();
     let numbers = record.into_numbers();
     let next = |from: u32| {
         let mut numbers = numbers.clone();
         numbers[6] = from;
         let record = Record::from_numbers(numbers);
-        Bench::from_parts(record, panel.clone(), store.clone()).create_font(0)
+        Device::from_parts(record, panel.clone(), store.clone()).create_font(0)
     };
     assert_eq!(next(0xDEAD_5700), Ok(Handle(0xDEAD_5700)));
     assert_eq!(next(0xDEAD_5701), Ok(Handle(0xDEAD_570A)));
@@ -397,11 +397,11 @@ fn handles_pass_those_that_are_taken() {
 #[test]
 fn stock_objects_are_the_original_s() {
     let original = GdiState::new();
-    let bench = Bench::open(1, 1, 2, 2).expect("a bench");
+    let device = Device::open(1, 1, 2, 2).expect("a device");
     let stock = (0..=u32::from(u16::MAX)).map(|low| 0xDEAD_0000 | low);
     let mut found = 0;
     for handle in stock.filter(|&handle| gdi::is_stock_handle(handle)) {
-        let ours = bench.get(Handle(handle)).expect("a stock object");
+        let ours = device.get(Handle(handle)).expect("a stock object");
         match (original.get(handle).expect("a stock object"), ours) {
             (gdi::GdiObject::Dc(theirs), GdiObject::Dc(dc)) => {
                 assert_eq!((dc.surface, dc.selected_bitmap), (DcSurface::Screen, None));
@@ -434,7 +434,7 @@ fn stock_objects_are_the_original_s() {
         found += 1;
     }
     assert_eq!(found, 12);
-    assert_eq!(bench.get(Handle(0)), None);
+    assert_eq!(device.get(Handle(0)), None);
 }
 
 #[test]
@@ -458,17 +458,17 @@ fn refusals_tell_their_meaning() {
 
 #[test]
 fn a_call_needs_less_than_32_kib_of_stack() {
-    let (mut bench, [dc, ..]) = bench();
+    let (mut device, [dc, ..]) = device();
     let calls = calls();
     let drawn = std::thread::scope(|scope| {
         let small = std::thread::Builder::new().stack_size(32 * 1024);
         let calling = small.spawn_scoped(scope, || {
             for call in &calls {
-                bench.perform(call, &[0x41; 9]);
+                device.perform(call, &[0x41; 9]);
             }
-            bench.blit(SCREEN_DC, AREA, dc, AT, 0x00B8_074A)?;
-            bench.blit(dc, AREA, dc, Point { x: 1, y: 1 }, rop3::SRCCOPY)?;
-            bench.remove(dc).map(|_| ())
+            device.blit(SCREEN_DC, AREA, dc, AT, 0x00B8_074A)?;
+            device.blit(dc, AREA, dc, Point { x: 1, y: 1 }, rop3::SRCCOPY)?;
+            device.remove(dc).map(|_| ())
         });
         calling.expect("a thread").join().expect("no fault")
     });

@@ -1,7 +1,7 @@
 //! Snapshots beside the original's, byte for byte.
 
 use pocket_kernel::framebuffer::Framebuffer;
-use ravinefork::Bench;
+use ravinefork::Device;
 
 /// Pixels without chance in them: every word comes up in 65,536 of them.
 fn pixels(count: usize, first: usize) -> Vec<u8> {
@@ -13,16 +13,16 @@ fn pictures_are_the_originals() {
     let sides = [(1, 1), (1, 9), (10, 1), (99, 101), (240, 320), (256, 256), (1000, 3), (3, 4096)];
     for (at, (width, height)) in sides.into_iter().enumerate() {
         let count = width as usize * height as usize;
-        let bench = Bench::open(width, height, 2 * count + 6, 2).expect("a bench");
+        let device = Device::open(width, height, 2 * count + 6, 2).expect("a device");
         let mut original = Framebuffer::new(width, height);
         original.pixels = pixels(count, 977 * at);
-        let (record, mut panel, store) = bench.into_parts();
+        let (record, mut panel, store) = device.into_parts();
         panel[..2 * count].copy_from_slice(&original.pixels);
-        let bench = Bench::from_parts(record, panel, store);
+        let device = Device::from_parts(record, panel, store);
 
-        let rgba = bench.snapshot_rgba8888().expect("a picture");
+        let rgba = device.snapshot_rgba8888().expect("a picture");
         assert!(rgba == original.snapshot_rgba8888(), "RGBA of {width} by {height}");
-        let ppm = bench.snapshot_ppm().expect("a picture");
+        let ppm = device.snapshot_ppm().expect("a picture");
         assert!(ppm == original.snapshot_ppm(), "P6 of {width} by {height}");
     }
 }

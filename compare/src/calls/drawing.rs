@@ -5,7 +5,7 @@ use std::str::FromStr;
 
 use pocket_kernel::framebuffer::colorref_to_rgb565;
 
-use super::bench::Bench;
+use super::device::Device;
 use super::call::Call;
 use super::handle::STOCK;
 use super::outcome::Answer;
@@ -35,20 +35,20 @@ pub fn drawing(text: &str) -> Result<Vec<u8>, String> {
     for (at, line) in text.lines().enumerate() {
         drawing.add(line).map_err(|error| format!("line {}: {error}", at + 1))?;
     }
-    drawing.bench.map(|_| drawing.script).ok_or("nothing is opened".into())
+    drawing.device.map(|_| drawing.script).ok_or("nothing is opened".into())
 }
 
-/// A drawing under way: its script, and the bench after the calls so far.
+/// A drawing under way: its script, and the device after the calls so far.
 struct Drawing {
     script: Vec<u8>,
-    bench: Option<Bench>,
+    device: Option<Device>,
     names: HashMap<String, u32>,
 }
 
 impl Drawing {
     fn new() -> Self {
         let stock = STOCK_NAMES.iter().map(ToString::to_string).zip(STOCK);
-        Self { script: Vec::new(), bench: None, names: stock.collect() }
+        Self { script: Vec::new(), device: None, names: stock.collect() }
     }
 
     /// Adds what a line says.
@@ -69,25 +69,25 @@ impl Drawing {
     }
 
     fn open(&mut self, header: Header) -> Result<(), String> {
-        if self.bench.is_some() {
-            return Err("a bench is open".into());
+        if self.device.is_some() {
+            return Err("a device is open".into());
         }
         if !header.is_served() {
             return Err("too large".into());
         }
-        let (refusal, bench) = header.open();
+        let (refusal, device) = header.open();
         if refusal != 0 {
             return Err(refused(refusal));
         }
-        (self.script, self.bench) = (header.bytes(), Some(bench));
+        (self.script, self.device) = (header.bytes(), Some(device));
         Ok(())
     }
 
-    /// Adds a call, which the bench performs; its answer.
+    /// Adds a call, which the device performs; its answer.
     fn perform(&mut self, words: &[&str]) -> Result<Answer, String> {
         let call = self.call(words)?;
-        let bench = self.bench.as_mut().ok_or("no bench is open")?;
-        let outcome = bench.perform(&call).map_err(|Overflow| "the original's sums overflow")?;
+        let device = self.device.as_mut().ok_or("no device is open")?;
+        let outcome = device.perform(&call).map_err(|Overflow| "the original's sums overflow")?;
         if outcome.refusal != 0 {
             return Err(refused(outcome.refusal));
         }
@@ -292,13 +292,13 @@ mod tests {
             ("screen = create_memory_dc", "screen is a name already"),
             ("old = set_text_align screen 0", "set_text_align makes no handle"),
             ("name =", "no call"),
-            ("open 8 2 2 2 0", "a bench is open"),
+            ("open 8 2 2 2 0", "a device is open"),
             ("pattern_fill screen 1 0 2147483647 1 PATCOPY", "the original's sums overflow"),
         ];
         for (line, error) in wrong {
             assert_eq!(drawing(&format!("{OPEN}{line}\n")), Err(format!("line 3: {error}")));
         }
-        assert_eq!(drawing("resize 1 1"), Err("line 1: no bench is open".into()));
+        assert_eq!(drawing("resize 1 1"), Err("line 1: no device is open".into()));
         assert_eq!(drawing("open 8 2 3 2 0"), Err("line 1: refused with 7".into()));
         assert_eq!(drawing("open 1048577 2 3 2 0"), Err("line 1: too large".into()));
         assert_eq!(drawing("# nothing"), Err("nothing is opened".into()));

@@ -6,7 +6,7 @@ use std::fmt;
 use pocket_kernel::font::{GLYPH_H, GLYPH_W};
 use pocket_kernel::gdi::{rop3, STOCK_DEFAULT_BITMAP};
 
-use super::bench::{bytes_of, Bench};
+use super::device::{bytes_of, Device};
 use super::call::Call;
 use super::outcome::Outcome;
 use super::paint::{drawn, Place};
@@ -58,8 +58,8 @@ impl Drawn {
         }
     }
 
-    /// Counts a call that draws, with the bench after it.
-    pub fn count(&mut self, call: &Call, outcome: &Outcome, bench: &Bench) {
+    /// Counts a call that draws, with the device after it.
+    pub fn count(&mut self, call: &Call, outcome: &Outcome, device: &Device) {
         match *call {
             Call::Text { ref units, .. } if matches!(outcome.refusal, 0 | 10) => {
                 self.texts.add(match drawn(units.as_slice()) {
@@ -72,13 +72,13 @@ impl Drawn {
             _ => {}
         }
         if outcome.refusal == 0 {
-            self.count_seen(call, outcome, bench);
+            self.count_seen(call, outcome, device);
         }
     }
 
     /// Counts an accepted call by what of it is in sight.
-    fn count_seen(&mut self, call: &Call, outcome: &Outcome, bench: &Bench) {
-        let seen = seen(call, bench);
+    fn count_seen(&mut self, call: &Call, outcome: &Outcome, device: &Device) {
+        let seen = seen(call, device);
         if let (true, Some(seen)) = (outcome.changed, &seen) {
             let cuts = cuts(seen);
             CUTS.iter().zip(cuts).filter(|(_, cut)| *cut).for_each(|(name, _)| self.cuts.add(name));
@@ -89,7 +89,7 @@ impl Drawn {
                 let marks = usize::from(seen.is_some()) + usize::from(outlined);
                 self.rectangles.add(["0", "1", "2"][marks]);
             }
-            Call::Blit { dc, source, code, .. } => match (bench.place(dc), bench.place(source)) {
+            Call::Blit { dc, source, code, .. } => match (device.place(dc), device.place(source)) {
                 (Ok(target), Ok(source)) if rop3::uses_src(code) => {
                     self.count_blit(target, source, seen.as_ref());
                 }
@@ -135,8 +135,8 @@ impl Drawn {
 
 /// The box of an accepted drawing on the surface of a DC, as far as it is in
 /// sight.
-fn seen(call: &Call, bench: &Bench) -> Option<[Axis; 2]> {
-    let sides = |dc| bench.place(dc).ok().map(|place| bench.sides(place));
+fn seen(call: &Call, device: &Device) -> Option<[Axis; 2]> {
+    let sides = |dc| device.place(dc).ok().map(|place| device.sides(place));
     let (dc, stretches) = match *call {
         Call::Blit { dc, x, y, w, h, source, sx, sy, code } if rop3::uses_src(code) => {
             let [width, height] = sides(source)?;

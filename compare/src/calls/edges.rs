@@ -38,7 +38,7 @@ fn panel_fill(word: u32) -> Call {
 }
 
 /// Looks before all calls, in a row, between calls and behind them; right before
-/// a bad call and behind it; the byte as an argument; looks without a bench.
+/// a bad call and behind it; the byte as an argument; looks without a device.
 fn looks() -> Vec<Vec<u8>> {
     let fill = panel_fill(0x7F7F).bytes();
     let steps = [

@@ -6,7 +6,7 @@ use pocket_kernel::gdi::{
     STOCK_SYSTEM_FONT, STOCK_WHITE_BRUSH,
 };
 
-use super::bench::MAX_OBJECTS;
+use super::device::MAX_OBJECTS;
 use super::call::Call;
 use super::handle::STOCK;
 use super::step::Step;
@@ -22,7 +22,7 @@ pub fn steps() -> Vec<Step> {
 }
 
 /// Sides past the limit, and bitmaps that just fit the store or just do not, on
-/// a bench with `ROOM` bytes left whose next handle this is. At the end four
+/// a device with `ROOM` bytes left whose next handle this is. At the end four
 /// bytes of the store are left, which a bitmap had.
 pub fn room(next: u32) -> Vec<Step> {
     let mut list = List::new(next);
@@ -39,7 +39,7 @@ pub fn room(next: u32) -> Vec<Step> {
     list.create(bitmap(64, 64));
     list.add([bitmap(1, 1), remove(last)]);
     let before = list.create(bitmap(1, 2));
-    // As much is left as on a fresh bench with a store of 12 bytes.
+    // As much is left as on a fresh device with a store of 12 bytes.
     list.add([bitmap(1, 6)]);
     let last = list.create(bitmap(0, 5));
     list.add([bitmap(1, 1)]);

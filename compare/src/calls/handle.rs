@@ -3,7 +3,7 @@
 
 use pocket_kernel::gdi::{self, GdiObject, GDI_HANDLE_BASE, GDI_SCREEN_DC};
 
-use super::bench::Bench;
+use super::device::Device;
 use crate::rng::Rng;
 
 pub const STOCK: [u32; 12] = [
@@ -22,69 +22,69 @@ pub const STOCK: [u32; 12] = [
 ];
 
 /// Mostly a created DC or the screen's.
-pub fn a_dc(rng: &mut Rng, bench: &Bench) -> u32 {
+pub fn a_dc(rng: &mut Rng, device: &Device) -> u32 {
     match rng.below(20) {
-        0 => live(rng, bench, |_| true),
-        1 => other(rng, bench),
+        0 => live(rng, device, |_| true),
+        1 => other(rng, device),
         2..=4 => GDI_SCREEN_DC,
-        _ => live(rng, bench, is_dc),
+        _ => live(rng, device, is_dc),
     }
 }
 
 /// A DC to select the object into: for a bitmap at times one without a surface.
-pub fn dc_for(rng: &mut Rng, bench: &Bench, object: u32) -> u32 {
-    if bench.gdi().bitmap(object).is_some() && rng.one_in(2) {
-        created(rng, bench, |handle| bench.place(handle) == Err(2))
+pub fn dc_for(rng: &mut Rng, device: &Device, object: u32) -> u32 {
+    if device.gdi().bitmap(object).is_some() && rng.one_in(2) {
+        created(rng, device, |handle| device.place(handle) == Err(2))
     } else {
-        a_dc(rng, bench)
+        a_dc(rng, device)
     }
 }
 
 /// Mostly a DC that has a surface: the screen's, or one with a live bitmap.
-pub fn with_surface(rng: &mut Rng, bench: &Bench) -> u32 {
+pub fn with_surface(rng: &mut Rng, device: &Device) -> u32 {
     match rng.below(24) {
-        0 => live(rng, bench, |_| true),
-        1 => other(rng, bench),
-        2 => live(rng, bench, is_dc),
+        0 => live(rng, device, |_| true),
+        1 => other(rng, device),
+        2 => live(rng, device, is_dc),
         3..=6 => GDI_SCREEN_DC,
-        _ => created(rng, bench, |handle| bench.place(handle).is_ok()),
+        _ => created(rng, device, |handle| device.place(handle).is_ok()),
     }
 }
 
 /// A blit's source: the target, the screen DC, one with another surface, or any.
-pub fn source(rng: &mut Rng, bench: &Bench, target: u32) -> u32 {
+pub fn source(rng: &mut Rng, device: &Device, target: u32) -> u32 {
     let another =
-        |handle| bench.place(handle).is_ok() && bench.place(handle) != bench.place(target);
+        |handle| device.place(handle).is_ok() && device.place(handle) != device.place(target);
     match rng.below(12) {
         0..=2 => target,
         3 => GDI_SCREEN_DC,
-        4..=7 => created(rng, bench, another),
-        _ => with_surface(rng, bench),
+        4..=7 => created(rng, device, another),
+        _ => with_surface(rng, device),
     }
 }
 
 /// Mostly an object that a DC can hold.
-pub fn selectable(rng: &mut Rng, bench: &Bench) -> u32 {
+pub fn selectable(rng: &mut Rng, device: &Device) -> u32 {
     match rng.below(20) {
-        0 => live(rng, bench, is_dc),
-        1 => other(rng, bench),
+        0 => live(rng, device, is_dc),
+        1 => other(rng, device),
         2..=4 => rng.pick(&STOCK),
         5 if rng.one_in(2) => gdi::STOCK_DEFAULT_BITMAP,
-        6..=13 => live(rng, bench, |object| matches!(object, GdiObject::Bitmap(_))),
-        _ => live(rng, bench, |object| !is_dc(object)),
+        6..=13 => live(rng, device, |object| matches!(object, GdiObject::Bitmap(_))),
+        _ => live(rng, device, |object| !is_dc(object)),
     }
 }
 
 /// Mostly a created object.
-pub fn any_object(rng: &mut Rng, bench: &Bench) -> u32 {
+pub fn any_object(rng: &mut Rng, device: &Device) -> u32 {
     match rng.below(20) {
-        0..=2 => other(rng, bench),
+        0..=2 => other(rng, device),
         3 | 4 => rng.pick(&STOCK),
         // The first and the last one.
-        5 => bench.created().first().copied().unwrap_or_default(),
-        6 => bench.created().last().copied().unwrap_or_default(),
-        7..=10 => live(rng, bench, |object| matches!(object, GdiObject::Bitmap(_))),
-        _ => live(rng, bench, |_| true),
+        5 => device.created().first().copied().unwrap_or_default(),
+        6 => device.created().last().copied().unwrap_or_default(),
+        7..=10 => live(rng, device, |object| matches!(object, GdiObject::Bitmap(_))),
+        _ => live(rng, device, |_| true),
     }
 }
 
@@ -93,13 +93,13 @@ fn is_dc(object: &GdiObject) -> bool {
 }
 
 /// A created object of this kind; the screen DC if there is none.
-fn live(rng: &mut Rng, bench: &Bench, kind: fn(&GdiObject) -> bool) -> u32 {
-    created(rng, bench, |handle| bench.gdi().get(handle).is_some_and(kind))
+fn live(rng: &mut Rng, device: &Device, kind: fn(&GdiObject) -> bool) -> u32 {
+    created(rng, device, |handle| device.gdi().get(handle).is_some_and(kind))
 }
 
 /// The same by handle.
-fn created(rng: &mut Rng, bench: &Bench, wanted: impl Fn(u32) -> bool) -> u32 {
-    let created = bench.created().iter().copied();
+fn created(rng: &mut Rng, device: &Device, wanted: impl Fn(u32) -> bool) -> u32 {
+    let created = device.created().iter().copied();
     let created: Vec<u32> = created.filter(|&handle| wanted(handle)).collect();
     if created.is_empty() {
         GDI_SCREEN_DC
@@ -109,8 +109,8 @@ fn created(rng: &mut Rng, bench: &Bench, wanted: impl Fn(u32) -> bool) -> u32 {
 }
 
 /// Mostly the handle of an object that is gone or not yet there.
-fn other(rng: &mut Rng, bench: &Bench) -> u32 {
-    let next = bench.next();
+fn other(rng: &mut Rng, device: &Device) -> u32 {
+    let next = device.next();
     match rng.below(6) {
         0 => rng.pick(&[0, 1, GDI_HANDLE_BASE - 1, u32::MAX, 0xDEAD_570A]),
         1 => rng.next() as u32,

@@ -1,6 +1,6 @@
-//! Calls on a bench: the scripts of docs/call-script.md on the original.
+//! Calls on a device: the scripts of docs/call-script.md on the original.
 
-mod bench;
+mod device;
 mod call;
 mod drawing;
 mod drawn;
@@ -21,7 +21,7 @@ mod spoilt;
 mod step;
 mod tally;
 
-pub use bench::{bytes_of, MAX_MEMORY, MAX_OBJECTS, MAX_SIDE};
+pub use device::{bytes_of, MAX_MEMORY, MAX_OBJECTS, MAX_SIDE};
 pub use drawing::drawing;
 pub use handle::STOCK;
 pub use run::{run, run_handles, run_pictures};

@@ -4,7 +4,7 @@ use pocket_kernel::font::draw_str_u16;
 use pocket_kernel::framebuffer::colorref_to_rgb565;
 use pocket_kernel::gdi::{rop3, DcSurface, Surface};
 
-use super::bench::{bytes_of, Bench, MAX_SIDE};
+use super::device::{bytes_of, Device, MAX_SIDE};
 use super::call::Call;
 use super::outcome::{Answer, Stop};
 use crate::overflow::{caught, Overflow};
@@ -28,7 +28,7 @@ struct Target {
     text: u16,
 }
 
-impl Bench {
+impl Device {
     /// Where a DC draws, unless refused: 1 no such DC, then 2 no surface.
     pub fn place(&self, dc: u32) -> Result<Place, u8> {
         let dc = self.gdi().dc(dc).ok_or(1)?;
@@ -190,23 +190,23 @@ mod tests {
     const MEMORY: u32 = 0xDEAD_1000;
     const BITMAP: u32 = 0xDEAD_1001;
 
-    /// A bench of 3 by 2 with a memory DC and a bitmap of 3 by 2, which is not
+    /// A device of 3 by 2 with a memory DC and a bitmap of 3 by 2, which is not
     /// selected yet.
-    fn bench() -> Bench {
-        let (refusal, mut bench) = Bench::open(vec![0xA5; 30], vec![0xA5; 40], 3, 2);
+    fn device() -> Device {
+        let (refusal, mut device) = Device::open(vec![0xA5; 30], vec![0xA5; 40], 3, 2);
         assert_eq!(refusal, 0);
-        perform(&mut bench, Call::CreateMemoryDc {});
-        perform(&mut bench, Call::CreateCompatibleBitmap { width: 3, height: 2 });
-        bench
+        perform(&mut device, Call::CreateMemoryDc {});
+        perform(&mut device, Call::CreateCompatibleBitmap { width: 3, height: 2 });
+        device
     }
 
     /// Performs the call: its refusal and its answer, as printed.
-    fn perform(bench: &mut Bench, call: Call) -> String {
-        bench.perform(&call).expect("no sum overflows").to_string()
+    fn perform(device: &mut Device, call: Call) -> String {
+        device.perform(&call).expect("no sum overflows").to_string()
     }
 
-    fn select(bench: &mut Bench, object: u32) {
-        perform(bench, Call::Select { dc: MEMORY, object });
+    fn select(device: &mut Device, object: u32) {
+        perform(device, Call::Select { dc: MEMORY, object });
     }
 
     fn fill(dc: u32, [x, y, w, h]: [i32; 4], code: u32) -> Call {
@@ -225,69 +225,69 @@ mod tests {
         Call::text(dc, 0, 0, units.to_vec())
     }
 
-    fn words(bench: &Bench, place: Place) -> Vec<u16> {
-        let pixels = bench.pixels_at(place).chunks(2);
+    fn words(device: &Device, place: Place) -> Vec<u16> {
+        let pixels = device.pixels_at(place).chunks(2);
         pixels.map(|word| u16::from_le_bytes([word[0], word[1]])).collect()
     }
 
-    fn dirty(bench: &Bench, bitmap: u32) -> bool {
-        bench.gdi().bitmap(bitmap).unwrap().host_dirty
+    fn dirty(device: &Device, bitmap: u32) -> bool {
+        device.gdi().bitmap(bitmap).unwrap().host_dirty
     }
 
     #[test]
     fn refusals_in_their_order() {
-        let mut bench = bench();
+        let mut device = device();
         let at = [0, 0, 1, 1];
-        let refusals = |bench: &mut Bench, dc| {
+        let refusals = |device: &mut Device, dc| {
             let calls =
                 [fill(dc, at, PATCOPY), rectangle(dc, at), text(dc, &[]), blit(dc, at, 0, 0, 0)];
-            calls.map(|call| perform(bench, call))
+            calls.map(|call| perform(device, call))
         };
-        assert_eq!(refusals(&mut bench, 0), ["1", "1", "1 0", "1"]);
-        assert_eq!(refusals(&mut bench, MEMORY), ["2", "2", "2 0", "2"]);
-        let mut from = |source, at, code| perform(&mut bench, blit(SCREEN, at, source, 0, code));
+        assert_eq!(refusals(&mut device, 0), ["1", "1", "1 0", "1"]);
+        assert_eq!(refusals(&mut device, MEMORY), ["2", "2", "2 0", "2"]);
+        let mut from = |source, at, code| perform(&mut device, blit(SCREEN, at, source, 0, code));
         assert_eq!(from(0, at, SRCCOPY), "3");
         assert_eq!(from(0, [0, 0, 0, 1], SRCCOPY), "3");
         assert_eq!(from(MEMORY, [0, 0, -1, 1], SRCCOPY), "4");
         assert_eq!(from(0, at, DSTINVERT), "0");
         assert_eq!(from(MEMORY, at, 0x00AA_1234), "0");
-        select(&mut bench, BITMAP);
-        assert_eq!(refusals(&mut bench, MEMORY), ["0", "0", "0 0", "0"]);
-        perform(&mut bench, Call::Delete { handle: BITMAP });
-        assert_eq!(refusals(&mut bench, MEMORY), ["2", "2", "2 0", "2"]);
-        assert_eq!(perform(&mut bench, blit(SCREEN, at, MEMORY, 0, SRCCOPY)), "4");
+        select(&mut device, BITMAP);
+        assert_eq!(refusals(&mut device, MEMORY), ["0", "0", "0 0", "0"]);
+        perform(&mut device, Call::Delete { handle: BITMAP });
+        assert_eq!(refusals(&mut device, MEMORY), ["2", "2", "2 0", "2"]);
+        assert_eq!(perform(&mut device, blit(SCREEN, at, MEMORY, 0, SRCCOPY)), "4");
     }
 
     #[test]
     fn a_bitmap_of_another_kind_is_no_surface() {
-        let mut bench = bench();
-        select(&mut bench, BITMAP);
-        let brush = bench.gdi().get(pocket_kernel::gdi::STOCK_WHITE_BRUSH).cloned();
-        *bench.gdi_mut().get_mut(BITMAP).unwrap() = brush.unwrap();
-        assert_eq!(bench.place(MEMORY), Err(2));
+        let mut device = device();
+        select(&mut device, BITMAP);
+        let brush = device.gdi().get(pocket_kernel::gdi::STOCK_WHITE_BRUSH).cloned();
+        *device.gdi_mut().get_mut(BITMAP).unwrap() = brush.unwrap();
+        assert_eq!(device.place(MEMORY), Err(2));
     }
 
     #[test]
     fn a_rectangle_has_two_marks_one_or_none() {
-        let mut bench = bench();
+        let mut device = device();
         for (at, frames) in
             [([0, 0, 2, 2], 2), ([9, 9, 1, 1], 3), ([0, 0, 0, 1], 3), ([0, 0, 1, -1], 3)]
         {
-            assert_eq!(perform(&mut bench, rectangle(SCREEN, at)), "0");
-            assert_eq!(bench.panel.frame_counter, frames);
+            assert_eq!(perform(&mut device, rectangle(SCREEN, at)), "0");
+            assert_eq!(device.panel.frame_counter, frames);
         }
-        select(&mut bench, BITMAP);
-        perform(&mut bench, rectangle(MEMORY, [0, 0, 0, 1]));
-        assert!(!dirty(&bench, BITMAP));
-        perform(&mut bench, rectangle(MEMORY, [9, 9, 1, 1]));
-        assert!(dirty(&bench, BITMAP));
-        perform(&mut bench, rectangle(MEMORY, [0, 0, 3, 2]));
-        assert_eq!(words(&bench, Place::Bitmap(BITMAP)), [0; 6]);
+        select(&mut device, BITMAP);
+        perform(&mut device, rectangle(MEMORY, [0, 0, 0, 1]));
+        assert!(!dirty(&device, BITMAP));
+        perform(&mut device, rectangle(MEMORY, [9, 9, 1, 1]));
+        assert!(dirty(&device, BITMAP));
+        perform(&mut device, rectangle(MEMORY, [0, 0, 3, 2]));
+        assert_eq!(words(&device, Place::Bitmap(BITMAP)), [0; 6]);
     }
 
     #[test]
     fn a_text_marks_if_it_has_a_unit() {
-        let mut bench = bench();
+        let mut device = device();
         for (units, line, frames) in [
             (vec![], "0 0", 0),
             (vec![0, 0x41], "0 0", 0),
@@ -297,54 +297,54 @@ mod tests {
             (vec![0x41; 65_536], "10 0", 3),
             ([vec![0x41; 5], vec![0], vec![0x41; 65_530]].concat(), "0 30", 4),
         ] {
-            assert_eq!(perform(&mut bench, text(SCREEN, &units)), line);
-            assert_eq!(bench.panel.frame_counter, frames);
+            assert_eq!(perform(&mut device, text(SCREEN, &units)), line);
+            assert_eq!(device.panel.frame_counter, frames);
         }
-        assert_eq!(perform(&mut bench, text(MEMORY, &[0x41; 65_536])), "2 0");
+        assert_eq!(perform(&mut device, text(MEMORY, &[0x41; 65_536])), "2 0");
     }
 
     #[test]
     fn a_blit_takes_the_pixels_before_it() {
-        let mut bench = bench();
-        select(&mut bench, BITMAP);
+        let mut device = device();
+        select(&mut device, BITMAP);
         for (dc, place) in [(SCREEN, Place::Panel), (MEMORY, Place::Bitmap(BITMAP))] {
             for (x, color) in [(0, 0xFF), (1, 0xFF00), (2, 0xFF_0000)] {
-                bench.gdi_mut().dc_mut(dc).unwrap().brush_color = color;
-                perform(&mut bench, fill(dc, [x, 0, 1, 1], PATCOPY));
+                device.gdi_mut().dc_mut(dc).unwrap().brush_color = color;
+                perform(&mut device, fill(dc, [x, 0, 1, 1], PATCOPY));
             }
-            assert_eq!(words(&bench, place), [0xF800, 0x07E0, 0x001F, 0, 0, 0]);
-            perform(&mut bench, blit(dc, [1, 0, 2, 1], dc, 0, SRCCOPY));
-            assert_eq!(words(&bench, place), [0xF800, 0xF800, 0x07E0, 0, 0, 0]);
+            assert_eq!(words(&device, place), [0xF800, 0x07E0, 0x001F, 0, 0, 0]);
+            perform(&mut device, blit(dc, [1, 0, 2, 1], dc, 0, SRCCOPY));
+            assert_eq!(words(&device, place), [0xF800, 0xF800, 0x07E0, 0, 0, 0]);
         }
-        perform(&mut bench, blit(SCREEN, [0, 1, 3, 1], MEMORY, -1, SRCINVERT));
+        perform(&mut device, blit(SCREEN, [0, 1, 3, 1], MEMORY, -1, SRCINVERT));
         let panel = [0xF800, 0xF800, 0x07E0, 0, 0xF800, 0xF800];
-        assert_eq!(words(&bench, Place::Panel), panel);
+        assert_eq!(words(&device, Place::Panel), panel);
     }
 
     #[test]
     fn the_screen_dc_paints_the_panel() {
-        let mut bench = bench();
-        perform(&mut bench, Call::Select { dc: SCREEN, object: BITMAP });
-        assert_eq!(bench.place(SCREEN), Ok(Place::Panel));
+        let mut device = device();
+        perform(&mut device, Call::Select { dc: SCREEN, object: BITMAP });
+        assert_eq!(device.place(SCREEN), Ok(Place::Panel));
     }
 
     #[test]
     fn the_stock_bitmap_is_a_surface() {
-        let mut bench = bench();
-        select(&mut bench, STOCK_DEFAULT_BITMAP);
-        assert_eq!(perform(&mut bench, fill(MEMORY, [-1, 0, 9, 9], PATCOPY)), "0");
-        assert!(dirty(&bench, STOCK_DEFAULT_BITMAP));
-        assert_eq!(words(&bench, Place::Bitmap(STOCK_DEFAULT_BITMAP)), [0xFFFF]);
-        assert!(bench.state()[0].contains(" stock 1 "));
+        let mut device = device();
+        select(&mut device, STOCK_DEFAULT_BITMAP);
+        assert_eq!(perform(&mut device, fill(MEMORY, [-1, 0, 9, 9], PATCOPY)), "0");
+        assert!(dirty(&device, STOCK_DEFAULT_BITMAP));
+        assert_eq!(words(&device, Place::Bitmap(STOCK_DEFAULT_BITMAP)), [0xFFFF]);
+        assert!(device.state()[0].contains(" stock 1 "));
     }
 
     #[test]
     fn a_resize_keeps_the_bytes_behind_the_panel() {
-        let mut bench = bench();
-        perform(&mut bench, Call::PanelFill { word: 0x0102 });
+        let mut device = device();
+        perform(&mut device, Call::PanelFill { word: 0x0102 });
         let mut resize = |width, height| {
-            let line = perform(&mut bench, Call::Resize { width, height });
-            (line, bench.panel.frame_counter, bench.panel_bytes())
+            let line = perform(&mut device, Call::Resize { width, height });
+            (line, device.panel.frame_counter, device.panel_bytes())
         };
         let before = [[2, 1].repeat(6), vec![0xA5; 18]].concat();
         for (width, height, line) in [
@@ -364,7 +364,7 @@ mod tests {
 
     #[test]
     fn an_overflow_changes_nothing() {
-        let mut bench = bench();
+        let mut device = device();
         let calls = [
             rectangle(SCREEN, [i32::MAX - 1, 0, 3, 1]),
             fill(SCREEN, [1, 0, i32::MAX, 1], DSTINVERT),
@@ -372,8 +372,8 @@ mod tests {
             blit(SCREEN, [0, 0, i32::MAX, 1], SCREEN, 1, SRCCOPY),
         ];
         for call in calls {
-            assert!(bench.perform(&call).is_err(), "{call}");
-            assert_eq!((bench.panel.frame_counter, words(&bench, Place::Panel)), (0, vec![0; 6]));
+            assert!(device.perform(&call).is_err(), "{call}");
+            assert_eq!((device.panel.frame_counter, words(&device, Place::Panel)), (0, vec![0; 6]));
         }
     }
 }

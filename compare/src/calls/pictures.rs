@@ -22,7 +22,7 @@ const AMBER: u32 = 0x0000_A5FF;
 const WHITE: u32 = 0x00FF_FFFF;
 
 /// Every drawing call, every refusal of each, and what can be seen of them in the
-/// end, on a bench with a panel memory of 963 bytes whose next handle this is.
+/// end, on a device with a panel memory of 963 bytes whose next handle this is.
 pub fn steps(next: u32) -> Vec<Step> {
     List::of(next, &[panel, refusals, tables, boxes, overlaps, ink, moves, stock])
 }

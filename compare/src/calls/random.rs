@@ -1,6 +1,6 @@
-//! Random call scripts: calls that follow what is live on a bench.
+//! Random call scripts: calls that follow what is live on a device.
 
-use super::bench::{bytes_of, Bench, MAX_OBJECTS, MAX_SIDE};
+use super::device::{bytes_of, Device, MAX_OBJECTS, MAX_SIDE};
 use super::call::{Call, MAX_UNITS};
 use super::handle::{a_dc, any_object, dc_for, selectable, source, with_surface};
 use super::paint::Place;
@@ -13,9 +13,9 @@ use crate::random::{code, colorref, unit, word};
 use crate::rng::Rng;
 use crate::span::{moved, near, outline, span, Span};
 
-/// More objects than a bench can hold.
+/// More objects than a device can hold.
 const CROWD: usize = 300;
-/// On a small bench a look follows one call in so many.
+/// On a small device a look follows one call in so many.
 const CALLS_PER_LOOK: usize = 10;
 /// The same for calls that move bitmaps or turn the panel black.
 const MOVES_PER_LOOK: usize = 2;
@@ -23,7 +23,7 @@ const MOVES_PER_LOOK: usize = 2;
 const MANY_BYTES: usize = 250_000;
 const MANY_OBJECTS: usize = 64;
 
-/// The script that the seed makes: mostly 60 to 400 calls on a bench that opens,
+/// The script that the seed makes: mostly 60 to 400 calls on a device that opens,
 /// with looks between them. Of the tally only the calls that are dropped.
 pub fn script(seed: u64, tally: &mut Tally) -> Vec<u8> {
     let mut rng = Rng::new(seed);
@@ -34,39 +34,39 @@ pub fn script(seed: u64, tally: &mut Tally) -> Vec<u8> {
         _ if goal == CROWD => rng.between(360, 440),
         _ => rng.between(60, 400),
     };
-    let (_, mut bench) = header.open();
+    let (_, mut device) = header.open();
     let (steps, dropped) =
-        steps(&mut rng, &mut bench, goal, count as usize, |_, _| true, looked_at);
+        steps(&mut rng, &mut device, goal, count as usize, |_, _| true, looked_at);
     tally.drop_some(dropped);
     spoil(&mut rng, header, &steps)
 }
 
-/// Calls on the bench, which performs them, about a number of live objects that
+/// Calls on the device, which performs them, about a number of live objects that
 /// changes at times; a look follows those that are to be looked at. Calls that
 /// are not wanted are left out, and dropped those where a sum of the original
 /// overflows; their number.
 pub fn steps(
     rng: &mut Rng,
-    bench: &mut Bench,
+    device: &mut Device,
     mut goal: usize,
     count: usize,
-    wanted: impl Fn(&Bench, &Call) -> bool,
-    looked_at: impl Fn(&mut Rng, &Bench, &Call) -> bool,
+    wanted: impl Fn(&Device, &Call) -> bool,
+    looked_at: impl Fn(&mut Rng, &Device, &Call) -> bool,
 ) -> (Vec<Step>, u64) {
     let (mut steps, mut calls, mut dropped) = (Vec::new(), 0, 0);
     while calls < count {
         if rng.one_in(120) {
             goal = self::goal(rng);
         }
-        let call = call(rng, bench, goal);
-        if !wanted(bench, &call) {
+        let call = call(rng, device, goal);
+        if !wanted(device, &call) {
             continue;
         }
-        if let Err(Overflow) = bench.perform(&call) {
+        if let Err(Overflow) = device.perform(&call) {
             dropped += 1;
             continue;
         }
-        let look = looked_at(rng, bench, &call).then_some(Step::Look);
+        let look = looked_at(rng, device, &call).then_some(Step::Look);
         steps.push(call.into());
         steps.extend(look);
         calls += 1;
@@ -76,13 +76,13 @@ pub fn steps(
 
 /// Whether a look follows the call: the more it has to print and to take the CRC
 /// of, the less often.
-fn looked_at(rng: &mut Rng, bench: &Bench, call: &Call) -> bool {
+fn looked_at(rng: &mut Rng, device: &Device, call: &Call) -> bool {
     let calls = match call {
         Call::Delete { .. } | Call::Remove { .. } | Call::Resize { .. } => MOVES_PER_LOOK,
         _ => CALLS_PER_LOOK,
     };
-    let bytes = bench.panel_len() + bench.store_len();
-    let times = 1 + bytes / MANY_BYTES + bench.created().len() / MANY_OBJECTS;
+    let bytes = device.panel_len() + device.store_len();
+    let times = 1 + bytes / MANY_BYTES + device.created().len() / MANY_OBJECTS;
     rng.one_in((calls * times) as u64)
 }
 
@@ -124,8 +124,8 @@ fn store_len(rng: &mut Rng) -> u32 {
     len as u32
 }
 
-fn call(rng: &mut Rng, bench: &Bench, goal: usize) -> Call {
-    let live = bench.created().len();
+fn call(rng: &mut Rng, device: &Device, goal: usize) -> Call {
+    let live = device.created().len();
     let (create, delete) = if live + 40 < goal && live < MAX_OBJECTS {
         (300, 2)
     } else if live < goal {
@@ -156,47 +156,47 @@ fn call(rng: &mut Rng, bench: &Bench, goal: usize) -> Call {
         (0x12, 80),
     ];
     let kind = rng.weighted(&kinds);
-    of_kind(rng, bench, kind)
+    of_kind(rng, device, kind)
 }
 
-fn of_kind(rng: &mut Rng, bench: &Bench, kind: u8) -> Call {
+fn of_kind(rng: &mut Rng, device: &Device, kind: u8) -> Call {
     match kind {
         0x01 => Call::CreateMemoryDc {},
         0x02 => {
-            let (width, height) = sides(rng, bench);
+            let (width, height) = sides(rng, device);
             Call::CreateCompatibleBitmap { width, height }
         }
         0x03 => Call::CreateSolidBrush { color: colorref(rng) },
         0x04 => Call::CreatePen { color: colorref(rng), width: number(rng) },
         0x05 => Call::CreateFont { height: number(rng) as i32 },
-        0x06 => Call::Delete { handle: any_object(rng, bench) },
-        0x07 => Call::Remove { handle: any_object(rng, bench) },
+        0x06 => Call::Delete { handle: any_object(rng, device) },
+        0x07 => Call::Remove { handle: any_object(rng, device) },
         0x08 => {
-            let object = selectable(rng, bench);
-            Call::Select { dc: dc_for(rng, bench, object), object }
+            let object = selectable(rng, device);
+            Call::Select { dc: dc_for(rng, device, object), object }
         }
-        0x09 => Call::SetTextColor { dc: with_surface(rng, bench), color: colorref(rng) },
-        0x0A => Call::SetTextAlign { dc: a_dc(rng, bench), align: number(rng) },
-        0x0B => Call::SetBkColor { dc: a_dc(rng, bench), color: colorref(rng) },
-        0x0C => Call::SetBkMode { dc: a_dc(rng, bench), transparent: rng.below(2) as u32 },
-        0x0D => pattern_fill(rng, bench),
-        0x0E => rectangle(rng, bench),
-        0x0F => text(rng, bench),
+        0x09 => Call::SetTextColor { dc: with_surface(rng, device), color: colorref(rng) },
+        0x0A => Call::SetTextAlign { dc: a_dc(rng, device), align: number(rng) },
+        0x0B => Call::SetBkColor { dc: a_dc(rng, device), color: colorref(rng) },
+        0x0C => Call::SetBkMode { dc: a_dc(rng, device), transparent: rng.below(2) as u32 },
+        0x0D => pattern_fill(rng, device),
+        0x0E => rectangle(rng, device),
+        0x0F => text(rng, device),
         0x10 => Call::PanelFill { word: word(rng).into() },
-        0x11 => resize(rng, bench),
-        0x12 => blit(rng, bench),
+        0x11 => resize(rng, device),
+        0x12 => blit(rng, device),
         byte => unreachable!("no call {byte:02x}"),
     }
 }
 
 /// A bitmap's sides: small, as much as is left or a little more, at the limits,
 /// past them.
-fn sides(rng: &mut Rng, bench: &Bench) -> (u32, u32) {
+fn sides(rng: &mut Rng, device: &Device) -> (u32, u32) {
     let small = |rng: &mut Rng| rng.between(1, 16) as u32;
     let limit = [0, 1, 4095, 4096, 4097, 0x1_0000, 0x1_0001, 0x8000_0000, u32::MAX];
     let (width, height) = match rng.below(24) {
         0 | 1 => (rng.below(3) as u32, rng.below(3) as u32),
-        2 | 3 => just(rng, bench.left()),
+        2 | 3 => just(rng, device.left()),
         4 => (rng.pick(&limit), rng.pick(&limit)),
         5 | 6 => (rng.pick(&limit), small(rng)),
         7 => (1, rng.between(1, 4096) as u32),
@@ -227,22 +227,22 @@ fn number(rng: &mut Rng) -> u32 {
 }
 
 /// The sides to draw on: those of a DC's surface, else the panel's.
-fn sides_of(bench: &Bench, dc: u32) -> [i64; 2] {
-    let place = bench.place(dc).unwrap_or(Place::Panel);
-    bench.sides(place).map(|side| i64::from(side).max(1))
+fn sides_of(device: &Device, dc: u32) -> [i64; 2] {
+    let place = device.place(dc).unwrap_or(Place::Panel);
+    device.sides(place).map(|side| i64::from(side).max(1))
 }
 
-fn pattern_fill(rng: &mut Rng, bench: &Bench) -> Call {
-    let dc = with_surface(rng, bench);
-    let [width, height] = sides_of(bench, dc);
+fn pattern_fill(rng: &mut Rng, device: &Device) -> Call {
+    let dc = with_surface(rng, device);
+    let [width, height] = sides_of(device, dc);
     let whole = rng.one_in(8);
     let (x, y) = (span(rng, width, width, whole), span(rng, height, height, whole));
     Call::PatternFill { dc, x: x.begin, y: y.begin, w: x.len, h: y.len, code: code(rng) }
 }
 
-fn rectangle(rng: &mut Rng, bench: &Bench) -> Call {
-    let dc = with_surface(rng, bench);
-    let [width, height] = sides_of(bench, dc);
+fn rectangle(rng: &mut Rng, device: &Device) -> Call {
+    let dc = with_surface(rng, device);
+    let [width, height] = sides_of(device, dc);
     let (x, y) = if rng.one_in(2) {
         (outline(rng, width), outline(rng, height))
     } else {
@@ -257,9 +257,9 @@ fn short(rng: &mut Rng, side: i64) -> Span {
     Span { begin: begin as i32, from: 0, len: len as i32 }
 }
 
-fn text(rng: &mut Rng, bench: &Bench) -> Call {
-    let dc = with_surface(rng, bench);
-    let [width, height] = sides_of(bench, dc);
+fn text(rng: &mut Rng, device: &Device) -> Call {
+    let dc = with_surface(rng, device);
+    let [width, height] = sides_of(device, dc);
     let units = units(rng, width);
     let (x, y) = (near(rng, width, 6 * units.len() as i64), near(rng, height, 8));
     Call::text(dc, x, y, units)
@@ -292,8 +292,8 @@ fn many(rng: &mut Rng) -> Vec<u16> {
 
 /// Mostly sides that the panel memory has room for; else a little more, the
 /// present ones, 0, past the limit.
-fn resize(rng: &mut Rng, bench: &Bench) -> Call {
-    let [width, height] = bench.sides(Place::Panel);
+fn resize(rng: &mut Rng, device: &Device) -> Call {
+    let [width, height] = device.sides(Place::Panel);
     let over = rng.pick(&[4097, 5000, 0x1_0000, 0x8000_0000, u32::MAX]);
     let mut small = || rng.between(1, 24) as u32;
     let (a, b) = (small(), small());
@@ -301,7 +301,7 @@ fn resize(rng: &mut Rng, bench: &Bench) -> Call {
         0 => rng.pick(&[(0, b), (a, 0), (0, 0), (0, over)]),
         1 => (width, height),
         2 | 3 => rng.pick(&[(over, b), (a, over), (over, over)]),
-        4 | 5 => just(rng, bench.panel_len()),
+        4 | 5 => just(rng, device.panel_len()),
         6 => (height, width),
         7 => rng.pick(&[(width + 1, height), (width, height + 1)]),
         8 => rng.pick(&[(width.div_ceil(2), height), (width, height.div_ceil(2))]),
@@ -311,11 +311,11 @@ fn resize(rng: &mut Rng, bench: &Bench) -> Call {
 }
 
 /// A blit; within one surface mostly onto a part of its source.
-fn blit(rng: &mut Rng, bench: &Bench) -> Call {
-    let dc = with_surface(rng, bench);
-    let source = source(rng, bench, dc);
-    let ([width, height], [src_w, src_h]) = (sides_of(bench, dc), sides_of(bench, source));
-    let (x, y) = if bench.place(dc) == bench.place(source) && !rng.one_in(6) {
+fn blit(rng: &mut Rng, device: &Device) -> Call {
+    let dc = with_surface(rng, device);
+    let source = source(rng, device, dc);
+    let ([width, height], [src_w, src_h]) = (sides_of(device, dc), sides_of(device, source));
+    let (x, y) = if device.place(dc) == device.place(source) && !rng.one_in(6) {
         (moved(rng, width), moved(rng, height))
     } else {
         let whole = rng.one_in(8);
@@ -364,10 +364,10 @@ mod tests {
     fn looks_go_by_size() {
         let looks = |panel_len, store_len, objects: usize| {
             let header = Header { panel_len, store_len, width: 1, height: 1, fill: 0 };
-            let (mut rng, (_, mut bench)) = (Rng::new(1), header.open());
+            let (mut rng, (_, mut device)) = (Rng::new(1), header.open());
             let create = Call::CreateMemoryDc {};
-            (0..objects).for_each(|_| assert!(bench.perform(&create).is_ok()));
-            let mut count = |call| (0..9000).filter(|_| looked_at(&mut rng, &bench, &call)).count();
+            (0..objects).for_each(|_| assert!(device.perform(&create).is_ok()));
+            let mut count = |call| (0..9000).filter(|_| looked_at(&mut rng, &device, &call)).count();
             [count(Call::PanelFill { word: 0 }), count(Call::Delete { handle: 0 })]
         };
         let about = |looks: [usize; 2], due: [usize; 2]| {

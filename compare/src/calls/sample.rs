@@ -3,7 +3,7 @@
 use pocket_kernel::gdi::rop3::SRCINVERT;
 use pocket_kernel::gdi::GDI_SCREEN_DC;
 
-use super::bench::{bytes_of, Bench, MAX_SIDE};
+use super::device::{bytes_of, Device, MAX_SIDE};
 use super::call::Call;
 use super::examples::{self, bitmap, delete, select, List, ROOM};
 use super::pictures;
@@ -23,7 +23,7 @@ const UNTOUCHED: u64 = 8000;
 /// The sides of the bitmap that shows what the random calls drew.
 const SHOWN: u32 = 32;
 
-/// The sample's bench: bytes past the panel, and a store for the bitmaps that
+/// The sample's device: bytes past the panel, and a store for the bitmaps that
 /// stay and for the last examples.
 const HEADER: Header = Header {
     panel_len: 963,
@@ -40,16 +40,16 @@ pub fn sample() -> (Vec<u8>, String, Tally) {
 
 /// The same with so many random calls.
 fn script_with(random: usize) -> (Vec<u8>, String, Tally) {
-    let mut made = Made { steps: Vec::new(), bench: HEADER.open().1 };
+    let mut made = Made { steps: Vec::new(), device: HEADER.open().1 };
     made.perform(examples::steps());
-    let (mut rng, unseen) = (Rng::new(1), |_: &mut Rng, _: &Bench, _: &Call| false);
-    let (steps, _) = random::steps(&mut rng, &mut made.bench, 30, random, wanted, unseen);
+    let (mut rng, unseen) = (Rng::new(1), |_: &mut Rng, _: &Device, _: &Call| false);
+    let (steps, _) = random::steps(&mut rng, &mut made.device, 30, random, wanted, unseen);
     made.steps.extend(steps);
     made.steps.push(Step::Look);
-    made.perform(shown(&made.bench));
-    made.perform(pictures::steps(made.bench.next()));
-    assert_eq!(made.bench.left(), ROOM as usize, "what is left for the last examples");
-    made.perform(examples::room(made.bench.next()));
+    made.perform(shown(&made.device));
+    made.perform(pictures::steps(made.device.next()));
+    assert_eq!(made.device.left(), ROOM as usize, "what is left for the last examples");
+    made.perform(examples::room(made.device.next()));
     made.steps.push(Call::SetBkMode { dc: 0, transparent: 2 }.into());
     let mut script = HEADER.bytes();
     made.steps.iter().for_each(|step| step.write(&mut script));
@@ -58,17 +58,17 @@ fn script_with(random: usize) -> (Vec<u8>, String, Tally) {
     (script, answered.text(), tally)
 }
 
-/// Steps, and the bench after them.
+/// Steps, and the device after them.
 struct Made {
     steps: Vec<Step>,
-    bench: Bench,
+    device: Device,
 }
 
 impl Made {
     fn perform(&mut self, steps: Vec<Step>) {
         for step in steps {
             if let Step::Call(call) = &step {
-                assert!(self.bench.perform(call).is_ok(), "a sum overflows: {call}");
+                assert!(self.device.perform(call).is_ok(), "a sum overflows: {call}");
             }
             self.steps.push(step);
         }
@@ -76,10 +76,10 @@ impl Made {
 }
 
 /// Whether a random call has its place in the sample.
-fn wanted(bench: &Bench, call: &Call) -> bool {
+fn wanted(device: &Device, call: &Call) -> bool {
     match *call {
         Call::CreateCompatibleBitmap { width, height } if width.max(height) <= MAX_SIDE => {
-            let (bytes, left) = (bytes_of(width.max(1), height.max(1)), bench.left() as u64);
+            let (bytes, left) = (bytes_of(width.max(1), height.max(1)), device.left() as u64);
             bytes > left || left - bytes >= UNTOUCHED
         }
         Call::Text { ref units, .. } => units.as_slice().len() <= LONGEST_TEXT,
@@ -89,11 +89,11 @@ fn wanted(bench: &Bench, call: &Call) -> bool {
 
 /// Gathers what is on the panel and on every bitmap in one bitmap, and deletes
 /// all other objects.
-fn shown(bench: &Bench) -> Vec<Step> {
-    let is_bitmap = |handle: &u32| bench.gdi().bitmap(*handle).is_some();
+fn shown(device: &Device) -> Vec<Step> {
+    let is_bitmap = |handle: &u32| device.gdi().bitmap(*handle).is_some();
     let (bitmaps, others): (Vec<u32>, Vec<u32>) =
-        bench.created().iter().partition(|h| is_bitmap(h));
-    let mut list = List::new(bench.next());
+        device.created().iter().partition(|h| is_bitmap(h));
+    let mut list = List::new(device.next());
     list.add(others.into_iter().map(delete));
     let [dc, source] = [(); 2].map(|()| list.create(Call::CreateMemoryDc {}));
     let all = list.create(bitmap(SHOWN, SHOWN));
@@ -118,7 +118,7 @@ fn shown(bench: &Bench) -> Vec<Step> {
 #[cfg(test)]
 mod tests {
     use super::*;
-    use crate::calls::bench::MAX_OBJECTS;
+    use crate::calls::device::MAX_OBJECTS;
 
     /// The last lines of `room`, the bad call, and the panel.
     const END: &str = "\n0d 0\n06 0 1\nbad call\npanel 24 16 frames ";

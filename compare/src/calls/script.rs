@@ -2,7 +2,7 @@
 
 use std::ops::Range;
 
-use super::bench::Bench;
+use super::device::Device;
 use super::step::Step;
 use super::tally::Tally;
 use crate::argument::Argument;
@@ -54,9 +54,9 @@ impl Header {
         self.panel_len <= MOST_PANEL && self.store_len <= MOST_STORE
     }
 
-    pub fn open(&self) -> (u8, Bench) {
+    pub fn open(&self) -> (u8, Device) {
         let memory = |len: u32| vec![self.fill; len as usize];
-        Bench::open(memory(self.panel_len), memory(self.store_len), self.width, self.height)
+        Device::open(memory(self.panel_len), memory(self.store_len), self.width, self.height)
     }
 }
 
@@ -89,17 +89,17 @@ impl Answered {
 /// A script under way: what it has come to so far.
 struct Session {
     answered: Answered,
-    /// The bench, if the header is a good one, and whether it was opened.
-    bench: Option<Bench>,
+    /// The device, if the header is a good one, and whether it was opened.
+    device: Option<Device>,
     opened: bool,
 }
 
 impl Session {
     /// A session that has come to its first line.
-    fn begun(line: String, bench: Option<Bench>, tally: &mut Tally) -> Self {
+    fn begun(line: String, device: Option<Device>, tally: &mut Tally) -> Self {
         tally.begin(&line);
         let opened = line == "open 0";
-        Self { answered: Answered { lines: vec![line], steps: Vec::new() }, bench, opened }
+        Self { answered: Answered { lines: vec![line], steps: Vec::new() }, device, opened }
     }
 
     /// Reads a script and has the original perform it; an error where a sum of
@@ -107,14 +107,14 @@ impl Session {
     fn run(script: &[u8], tally: &mut Tally) -> Result<Self, String> {
         let mut rest = script;
         let header = Header::read(&mut rest).filter(|_| script.len() <= LONGEST);
-        let (refusal, bench) = match header {
+        let (refusal, device) = match header {
             None => return Ok(Self::begun("bad script".into(), None, tally)),
             Some(header) if !header.is_served() => {
                 return Ok(Self::begun("too large".into(), None, tally));
             }
             Some(header) => header.open(),
         };
-        let mut session = Self::begun(format!("open {refusal}"), Some(bench), tally);
+        let mut session = Self::begun(format!("open {refusal}"), Some(device), tally);
         if session.opened {
             session.perform(rest, tally)?;
         }
@@ -123,7 +123,7 @@ impl Session {
 
     /// Performs steps up to the end or a bad call.
     fn perform(&mut self, mut script: &[u8], tally: &mut Tally) -> Result<(), String> {
-        let bench = self.bench.as_mut().expect("a bench is open");
+        let device = self.device.as_mut().expect("a device is open");
         while !script.is_empty() {
             let Some(step) = Step::read(&mut script) else {
                 self.answered.lines.push("bad call".into());
@@ -132,15 +132,15 @@ impl Session {
             };
             let lines = match &step {
                 Step::Call(call) => {
-                    let outcome = bench.perform(call).map_err(|Overflow| {
+                    let outcome = device.perform(call).map_err(|Overflow| {
                         format!("the original's sums overflow, no answer: {call}")
                     })?;
-                    tally.count(call, &outcome, bench);
+                    tally.count(call, &outcome, device);
                     vec![format!("{:02x} {outcome}", call.byte())]
                 }
                 Step::Look => {
                     tally.look();
-                    bench.state()
+                    device.state()
                 }
             };
             self.answered.add(step, lines);
@@ -151,20 +151,20 @@ impl Session {
 
 /// What is printed for a script; an error where a sum of the original overflows.
 pub fn answered(script: &[u8], tally: &mut Tally) -> Result<Answered, String> {
-    let Session { mut answered, bench, .. } = Session::run(script, tally)?;
-    if let Some(bench) = bench {
-        tally.end(&bench);
-        answered.lines.extend(bench.end());
+    let Session { mut answered, device, .. } = Session::run(script, tally)?;
+    if let Some(device) = device {
+        tally.end(&device);
+        answered.lines.extend(device.end());
     }
     Ok(answered)
 }
 
 /// The final panel as a P6 picture, whatever was looked at before; the first line
-/// alone if no bench is open.
+/// alone if no device is open.
 pub fn picture(script: &[u8]) -> Result<Vec<u8>, String> {
-    let Session { answered, bench, opened } = Session::run(script, &mut Tally::new())?;
-    Ok(match bench {
-        Some(bench) if opened => bench.picture(),
+    let Session { answered, device, opened } = Session::run(script, &mut Tally::new())?;
+    Ok(match device {
+        Some(device) if opened => device.picture(),
         _ => format!("{}\n", answered.lines[0]).into_bytes(),
     })
 }
@@ -179,7 +179,7 @@ mod tests {
 
     const SMALL: Header = Header { panel_len: 8, store_len: 2, width: 2, height: 2, fill: 0xFF };
 
-    /// The state lines of a bench without objects.
+    /// The state lines of a device without objects.
     fn state(first: &str, panel: &str, crc: &str) -> String {
         let dc = "dc dead0dc0 screen none dead5701 dead5707 dead5710 00ffffff 00000000 00000000 \
                   00000000 00ffffff 0";
@@ -225,7 +225,7 @@ mod tests {
     }
 
     #[test]
-    fn an_opened_bench_and_a_refused_one() {
+    fn an_opened_device_and_a_refused_one() {
         // 0 eight and two times, then 0xFF as often.
         assert_eq!(printed(&SMALL.bytes()), state("open 0", "2 2", "6522df69 41d912ff"));
         let refused = state("open 6", "0 0", "2144df1c ffff0000");
@@ -297,7 +297,7 @@ mod tests {
     }
 
     #[test]
-    fn there_is_no_picture_of_a_bench_that_is_not_open() {
+    fn there_is_no_picture_of_a_device_that_is_not_open() {
         assert_eq!(picture(b"GDI1").unwrap(), b"bad script\n");
         let large = Header { panel_len: u32::MAX, ..SMALL };
         assert_eq!(picture(&large.bytes()).unwrap(), b"too large\n");

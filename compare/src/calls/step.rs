@@ -1,4 +1,4 @@
-//! The steps of a script: calls on the bench, and looks at it.
+//! The steps of a script: calls on the device, and looks at it.
 
 use super::call::{Call, KINDS};
 
@@ -9,7 +9,7 @@ pub const LOOK: u8 = 0x7F;
 #[derive(Clone, Debug, PartialEq)]
 pub enum Step {
     Call(Call),
-    /// Prints the state lines as they are now. It is no call on the bench.
+    /// Prints the state lines as they are now. It is no call on the device.
     Look,
 }
 

@@ -5,7 +5,7 @@ use std::fmt;
 
 use pocket_kernel::gdi::{is_stock_handle, GdiObject, GDI_SCREEN_DC};
 
-use super::bench::Bench;
+use super::device::Device;
 use super::call::{is_drawing, Call, KINDS};
 use super::drawn::Drawn;
 use super::outcome::{Answer, Outcome};
@@ -72,30 +72,30 @@ impl Tally {
         self.dropped += calls;
     }
 
-    pub fn end(&mut self, bench: &Bench) {
-        self.moved = [0, 1].map(|at| self.moved[at] + bench.moved[at]);
+    pub fn end(&mut self, device: &Device) {
+        self.moved = [0, 1].map(|at| self.moved[at] + device.moved[at]);
     }
 
-    /// Counts a call, with the bench after it.
-    pub fn count(&mut self, call: &Call, outcome: &Outcome, bench: &Bench) {
-        self.most = self.most.max(bench.created().len());
+    /// Counts a call, with the device after it.
+    pub fn count(&mut self, call: &Call, outcome: &Outcome, device: &Device) {
+        self.most = self.most.max(device.created().len());
         let kind = KINDS.iter().position(|kind| kind.0 == call.byte());
         let [calls, accepted, changed] = &mut self.kinds[kind.expect("each call has a kind")];
         *calls += 1;
         *accepted += u64::from(outcome.refusal == 0);
         *changed += u64::from(outcome.changed);
         if call.draws() {
-            self.drawn.count(call, outcome, bench);
+            self.drawn.count(call, outcome, device);
         }
         match outcome.refusal {
-            0 => self.count_accepted(call, outcome, bench),
+            0 => self.count_accepted(call, outcome, device),
             10 => self.too_long += 1,
             number => self.refused.add(&number.to_string()),
         }
     }
 
     /// Counts the answer of an accepted call.
-    fn count_accepted(&mut self, call: &Call, outcome: &Outcome, bench: &Bench) {
+    fn count_accepted(&mut self, call: &Call, outcome: &Outcome, device: &Device) {
         match (call, &outcome.answer) {
             (Call::Delete { handle }, Answer::Flag(deleted)) => {
                 let stock = if is_stock_handle(*handle) { "stock" } else { "created" };
@@ -103,7 +103,7 @@ impl Tally {
             }
             (Call::Remove { .. }, Answer::Object(object)) => self.removed.add(kind_of(object)),
             (Call::Select { .. }, Answer::Number(previous)) => {
-                self.selected.add(standing(*previous, bench));
+                self.selected.add(standing(*previous, device));
             }
             (Call::SetTextColor { dc, .. }, _)
             | (Call::SetTextAlign { dc, .. }, _)
@@ -172,12 +172,12 @@ fn kind_of(object: &Option<GdiObject>) -> &'static str {
 }
 
 /// What the handle that a selection answers is by now.
-fn standing(previous: u32, bench: &Bench) -> &'static str {
+fn standing(previous: u32, device: &Device) -> &'static str {
     if previous == 0 {
         "nothing"
     } else if is_stock_handle(previous) {
         "stock"
-    } else if bench.gdi().get(previous).is_some() {
+    } else if device.gdi().get(previous).is_some() {
         "live"
     } else {
         "gone"

@@ -1,4 +1,4 @@
-//! Bench records: those of docs/record-cases.md, and which are refused.
+//! Device records: those of docs/record-cases.md, and which are refused.
 
 mod edges;
 mod random;

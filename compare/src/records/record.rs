@@ -36,7 +36,7 @@ pub struct Slot {
     pub object: Object,
 }
 
-/// A bench record, and the lengths of the memories lent with it.
+/// A device record, and the lengths of the memories lent with it.
 #[derive(Clone, Debug, PartialEq)]
 pub struct Record {
     pub panel_len: u64,
@@ -46,7 +46,7 @@ pub struct Record {
     pub frame_counter: u64,
     pub next_handle: u32,
     pub stock_dirty: u8,
-    /// The screen DC's surface; the rest of it is as on a fresh bench.
+    /// The screen DC's surface; the rest of it is as on a fresh device.
     pub screen: u8,
     pub count: u64,
     /// The slots given; the others are vacant.

@@ -8,10 +8,10 @@ use lib.IntN.{ℤ, pos, negsuc, _-ℤ_}
 use mir.Val.{SFits, toZ}
 use mir.Syntax.{w32, w64}
 use borrow.Author.Tests.{lt-ltb, le-ltb}
-use Rattle.laws.proofs.Integer.{difference, eq-parts}
-use Rattle.laws.proofs.Machine.{fits32, fits64, held32, held64, stored32, stored64, natural64}
-use Rattle.laws.specs.Integer.{positive}
-use Rattle.laws.specs.Inner.{negative}
+use Rattle.arithmetic.proofs.Integer.{difference, eq-parts}
+use Rattle.arithmetic.proofs.Machine.{fits32, fits64, held32, held64, stored32, stored64, natural64}
+use Rattle.arithmetic.specs.Integer.{positive}
+use Rattle.arithmetic.specs.Inner.{negative}
 use Rattle.bigendian.specs.BigEndian.{signed}
 
 pub below-half : (half : ℕ) {n : ℕ} → n < half → signed half n ≡ pos n

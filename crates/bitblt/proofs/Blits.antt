@@ -7,14 +7,14 @@ use borrow.Author.Tests.{not-true, not-false}
 use Rattle.rop3.specs.Rop3.{tableOf, usesSrc}
 use Rattle.gdi.specs.declared.Dc.{Dc}
 use Rattle.gdi.specs.declared.GdiState.{GdiState}
-use Rattle.numbers.specs.View.{view, Stored}
+use Rattle.numbers.specs.View.{view, Updated}
 use Rattle.place.specs.declared.Place.{Place}
 use Rattle.place.specs.declared.Site.{Site}
 use Rattle.place.specs.declared.SurfaceId.{SurfaceId}
 use Rattle.place.specs.declared.Target.{Target}
 use Rattle.place.specs.declared.Target.the-variants.{NoDc, NoSurface, On}
 use Rattle.place.specs.Place.{whereIs, targetOf}
-use Rattle.place.specs.Inner.{Placed}
+use Rattle.place.specs.Inner.{SiteFound}
 use Rattle.dirty.specs.Dirty.{dirtiedIf}
 use Rattle.paint.specs.Memories.{Memories}
 use Rattle.paint.specs.Paint.{paintedBy, after}
@@ -24,29 +24,29 @@ use Rattle.plan.specs.Plan.{refuse}
 use Rattle.plan.specs.Stroke.{dirtiedBy, paintsOf}
 use Rattle.plan.specs.Drawing.{onSource, patternFill, blittedAt, blitStroke, blitOn, blit}
 use Rattle.plan.proofs.Followed.{StrokedOn}
-use Rattle.transfer.specs.Inner.{Beside, transferred}
-use Rattle.transfer.proofs.Besides.{beside}
+use Rattle.transfer.specs.Inner.{PlacesApart, transferred}
+use Rattle.transfer.proofs.PlacesApart.{beside}
 use Rattle.draw.proofs.Targeted.{Targeted, no-dc, no-surface, on, Sourced, no-source-dc, no-source-surface, from-source}
 
 -- the two sites that the code has found
-module _ {b : GdiState} {s q : SurfaceId} {i j : Site} (v : Placed b s i) (w : Placed b q j) where
+module _ {b : GdiState} {s q : SurfaceId} {i j : Site} (v : SiteFound b s i) (w : SiteFound b q j) where
   at-found : i .at ≡ whereIs b s
   at-found = ap (λ (x : Site). x .at) (v .same)
 
   from-found : j .at ≡ whereIs b q
   from-found = ap (λ (x : Site). x .at) (w .same)
 
-  pub beside-found : Beside (i .at) (j .at)
-  beside-found = rw (at-found, from-found) (beside b s q)
+  pub apart-found : PlacesApart (i .at) (j .at)
+  apart-found = rw (at-found, from-found) (beside b s q)
 
 -- what is drawn between them, with its mark, is the stroke in the colour k
-pub blit-made : {l l′ : List ℕ} {s q : SurfaceId} {i j : Site} → Placed (view l) s i → Placed (view l) q j → (a : Area) (p : Point) (table : ℕ) {c k : ℕ} {due : Bool} {ms ms′ : Memories}
-    → c ≡ k → (due ≡ blittedAt (i .at) (j .at) a p) × (ms′ ≡ transferred (i .at) (j .at) a p table c ms) → Stored l (dirtiedIf due s (view l)) l′
+pub blit-made : {l l′ : List ℕ} {s q : SurfaceId} {i j : Site} → SiteFound (view l) s i → SiteFound (view l) q j → (a : Area) (p : Point) (table : ℕ) {c k : ℕ} {due : Bool} {ms ms′ : Memories}
+    → c ≡ k → (due ≡ blittedAt (i .at) (j .at) a p) × (ms′ ≡ transferred (i .at) (j .at) a p table c ms) → Updated l (dirtiedIf due s (view l)) l′
     → StrokedOn l (blitStroke (view l) s q a p table k ∷ []) ms l′ ms′
 unfolding after paintedBy dirtiedBy paintsOf
 blit-made {l} {l′} {s} v w a p table {ms = ms} color (mark, new) marked =
     record {
-      numbers = subst (λ (t : Bool). Stored l (dirtiedIf t s (view l)) l′) (mark ∙ ap₂ (λ (at from : Place). blittedAt at from a p) (at-found v w) (from-found v w)) marked;
+      numbers = subst (λ (t : Bool). Updated l (dirtiedIf t s (view l)) l′) (mark ∙ ap₂ (λ (at from : Place). blittedAt at from a p) (at-found v w) (from-found v w)) marked;
       memories = new ∙ rw (color, at-found v w, from-found v w);
     }
 

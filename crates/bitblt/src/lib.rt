@@ -21,7 +21,7 @@ pub const NO_SOURCE_SURFACE: u32 = 4;
 
 // A code that ignores the source is a pattern fill; the source handle is not looked at then.
 pub fn blit(
-    l: &mut [u32],
+    numbers: &mut [u32],
     panel: &mut [u8],
     store: &mut [u8],
     dc: u32,
@@ -30,16 +30,16 @@ pub fn blit(
     from: Point,
     rop: u32,
 ) -> Answer
-    requires { ⌜ Lent (now l) (length (now panel)) (length (now store)) ⌝ }
-    ensures { λ r. ⌜ Followed (blit (view (now (l .entry))) dc area src from rop) (now (l .entry)) (memories (now (panel .entry)) (now (store .entry))) (partsOf r) (now (l .exit)) (memories (now (panel .exit)) (now (store .exit))) ⌝ }
+    requires { ⌜ Lent (now numbers) (length (now panel)) (length (now store)) ⌝ }
+    ensures { λ r. ⌜ Followed (blit (view (now (numbers .entry))) dc area src from rop) (now (numbers .entry)) (memories (now (panel .entry)) (now (store .entry))) (partsOf r) (now (numbers .exit)) (memories (now (panel .exit)) (now (store .exit))) ⌝ }
 {
     if !rop3::uses_src(rop) {
-        return draw::pattern_fill(l, panel, store, dc, area, rop);
+        return draw::pattern_fill(numbers, panel, store, dc, area, rop);
     }
-    match place::target_of(l, dc) {
+    match place::target_of(numbers, dc) {
         Target::NoDc => Answer::Refused(NO_DC),
         Target::NoSurface => Answer::Refused(NO_SURFACE),
-        Target::On(id, site, d) => match place::target_of(l, src) {
+        Target::On(id, site, d) => match place::target_of(numbers, src) {
             Target::NoDc => Answer::Refused(NO_SOURCE_DC),
             Target::NoSurface => Answer::Refused(NO_SOURCE_SURFACE),
             Target::On(_, source, _) => {
@@ -48,7 +48,7 @@ pub fn blit(
                 let taken = source.at;
                 let c = color::colorref_to_rgb565(d.brush_color);
                 let due = transfer::blit_at(panel, store, at, taken, area, from, rop, c);
-                dirty::mark_dirty_if(l, id, slot, due);
+                dirty::mark_dirty_if(numbers, id, slot, due);
                 Answer::Drawn
             }
         },

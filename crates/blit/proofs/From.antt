@@ -8,9 +8,9 @@ use native.Mathlib.Omega.{arith}
 use lib.Dec.{leb}
 use lib.ListN.{length}
 use borrow.Author.Tests.{le-leb, lt-leb}
-use Rattle.laws.specs.Interval.{between}
-use Rattle.laws.proofs.Interval.{bounds}
-use Rattle.laws.proofs.Test.{both, and-true, and-false, not-left, not-right}
+use Rattle.arithmetic.specs.Interval.{between}
+use Rattle.arithmetic.proofs.Interval.{bounds}
+use Rattle.arithmetic.proofs.Test.{both, and-true, and-false, not-left, not-right}
 use Rattle.words.specs.Words.{word, painted}
 use Rattle.words.proofs.Painted.{painted-none, painted-same, painted-cong}
 use Rattle.rop3.specs.Rop3.{applied}
@@ -19,7 +19,7 @@ use Rattle.clip_blit.specs.declared.BlitRect.{BlitRect}
 use Rattle.surface.specs.Region.{wordsOf}
 use Rattle.surface.proofs.Rows.{rect, row-fits, off-rows, no-rows}
 use Rattle.blit.specs.Blit.{Blit, clipped, region, sourceWord, rowHeld, blitFrom}
-use Rattle.blit.specs.Inner.{columns, rowAt, sourceRowAt, taken, held, rowFrom, rowsFrom, RoomFrom}
+use Rattle.blit.specs.Inner.{columns, rowAt, sourceRowAt, sourceFor, held, rowFrom, rowsFrom, RoomFrom}
 use Rattle.blit.proofs.Pixels.{Empty, is-empty, across, down, held-same, boxed, none-drawn, taken-same, row-in-source}
 use Rattle.blit.proofs.Rows.{next-row, fits, in-row, taken-row, below}
 
@@ -61,7 +61,7 @@ room-kept e h = rw e h
 -- rows from other bytes
 module _ (box : BlitRect) (W SW table pat : ℕ) (src m₀ : List ℕ) (room : RoomFrom (length m₀) W SW box) where
   abbrev Word : ℕ → ℕ
-  Word i = word src (taken box W SW i)
+  Word i = word src (sourceFor box W SW i)
 
   abbrev Drawn : ℕ → ℕ → Bool
   Drawn y = wordsOf W (λ c r. rect (box .x0) (box .x1) (box .y0) y c r && held box SW (length src) r)
@@ -133,7 +133,7 @@ module _ (b : Blit) (table pat : ℕ) (src m : List ℕ) (some : 0 < b .width) (
   whole-from : rowsFrom (clipped b) (b .width) (b .src-w) table pat (clipped b .y1) src m ≡ blitFrom b table pat src m
   unfolding rowsFrom blitFrom
   whole-from =
-      painted-same (wordsOf (b .width) (λ c r. rect (clipped b .x0) (clipped b .x1) (clipped b .y0) (clipped b .y1) c r && held (clipped b) (b .src-w) (length src) r)) Region (ropped table pat (λ i. word src (taken (clipped b) (b .width) (b .src-w) i)) m) New m
+      painted-same (wordsOf (b .width) (λ c r. rect (clipped b .x0) (clipped b .x1) (clipped b .y0) (clipped b .y1) c r && held (clipped b) (b .src-w) (length src) r)) Region (ropped table pat (λ i. word src (sourceFor (clipped b) (b .width) (b .src-w) i)) m) New m
       (λ i lt. rw (boxed b some i (omega arith), held-same b (length src) (i / b .width)))
       (λ i lt t. ap (λ (k : ℕ). applied table pat (word src k) (word m i)) (taken-same b some i (omega arith) (both (wordsOf (b .width) (region b) i) (rowHeld b (length src) (i / b .width)) t .0)))
 

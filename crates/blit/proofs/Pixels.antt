@@ -6,17 +6,17 @@ use Prim.Native.Nat.{ℕ, _+_, _*_, _-_, _/_, _%_, _≤_, _<_}
 use native.Mathlib.Omega.{arith}
 use lib.Dec.{leb, ltb}
 use borrow.Author.Tests.{le-leb, le-ltb, lt-ltb}
-use Rattle.laws.specs.Interval.{between}
-use Rattle.laws.specs.Integer.{positive}
-use Rattle.laws.proofs.Interval.{bounds}
-use Rattle.laws.proofs.Test.{both, together, not-left, not-right}
+use Rattle.arithmetic.specs.Interval.{between}
+use Rattle.arithmetic.specs.Integer.{positive}
+use Rattle.arithmetic.proofs.Interval.{bounds}
+use Rattle.arithmetic.proofs.Test.{both, together, not-left, not-right}
 use Rattle.clip_blit.specs.declared.BlitRect.{BlitRect}
 use Rattle.clip_blit.specs.Blit.{blitAxis}
 use Rattle.clip_blit.proofs.Blit.{Clipped, blit-clipped, blit-region}
 use Rattle.surface.specs.Region.{wordsOf}
 use Rattle.surface.proofs.Rows.{rect, column-lt, row-lt, row-fits, no-rows, no-columns}
 use Rattle.blit.specs.Blit.{Blit, clipped, region, marks, sourceWord, rowHeld}
-use Rattle.blit.specs.Inner.{taken, held}
+use Rattle.blit.specs.Inner.{sourceFor, held}
 
 -- a box without columns or without rows
 abbrev pub Empty : BlitRect → Type 0
@@ -77,7 +77,7 @@ module _ (b : Blit) where
       in-line = bounds (clipped b .y0) (clipped b .y1) (j / b .width) (both (between (clipped b .x0) (clipped b .x1) (j % b .width)) _ (boxed ∙ e) .1)
 
       -- the loops take the definition's source word for it
-      pub taken-same : taken (clipped b) (b .width) (b .src-w) j ≡ sourceWord b (j % b .width) (j / b .width)
+      pub taken-same : sourceFor (clipped b) (b .width) (b .src-w) j ≡ sourceWord b (j % b .width) (j / b .width)
       taken-same =
           let x = ap positive (across .taken (j % b .width) (in-column .0) (in-column .1)) in
           let y = ap positive (down .taken (j / b .width) (in-line .0) (in-line .1)) in

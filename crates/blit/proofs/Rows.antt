@@ -5,14 +5,14 @@ use mathlib.Core.List.{List}
 use Prim.Native.Nat.{ℕ, _+_, _*_, _-_, _/_, _%_, _≤_, _<_}
 use native.Mathlib.Omega.{arith}
 use lib.ListN.{length}
-use Rattle.laws.specs.Interval.{between}
+use Rattle.arithmetic.specs.Interval.{between}
 use Rattle.words.specs.Words.{painted}
 use Rattle.words.proofs.Painted.{painted-again, word-kept}
 use Rattle.raster.specs.Raster.{ropped}
 use Rattle.clip_blit.specs.declared.BlitRect.{BlitRect}
 use Rattle.surface.specs.Region.{wordsOf}
 use Rattle.surface.proofs.Rows.{rect, run-row, run-column, row-below, row-above}
-use Rattle.blit.specs.Inner.{columns, rowAt, sourceRowAt, taken, Across}
+use Rattle.blit.specs.Inner.{columns, rowAt, sourceRowAt, sourceFor, Across}
 
 -- One row more, drawn in a memory that is painted at Old: its own words are not painted yet, and what it takes is what Word says.
 pub next-row : (table pat : ℕ) (Word : ℕ → ℕ) (Read : List ℕ → ℕ → ℕ) (Old Row All : ℕ → Bool) (m₀ : List ℕ) {m m′ : List ℕ} → ((i : ℕ) → All i ≡ (Row i || Old i)) → ((i : ℕ) → Row i ≡ true → (2 * i + 1 < length m₀) × (Old i ≡ false)) → ((i : ℕ) → Row i ≡ true → Read (painted Old (ropped table pat Word m₀) m₀) i ≡ Word i) → m ≡ painted Old (ropped table pat Word m₀) m₀ → m′ ≡ painted Row (ropped table pat (Read m) m) m → m′ ≡ painted All (ropped table pat Word m₀) m₀
@@ -39,7 +39,7 @@ module _ (box : BlitRect) (W : ℕ) (A : Across W box) where
   pub in-row : (y i : ℕ) → run y i ≡ true → i / W ≡ y
   in-row y i e = run-row W (box .x0) n y i (A .some) fits e
 
-  pub taken-row : (SW y i : ℕ) → run y i ≡ true → taken box W SW i ≡ sourceRowAt box SW y + (i - rowAt box W y)
+  pub taken-row : (SW y i : ℕ) → run y i ≡ true → sourceFor box W SW i ≡ sourceRowAt box SW y + (i - rowAt box W y)
   taken-row SW y i e =
       let c : i % W - box .x0 ≡ i - rowAt box W y = omega (arith, run-column W (box .x0) n y i (A .some) fits e) in
       ap (λ (q : ℕ). sourceRowAt box SW q + (i % W - box .x0)) (in-row y i e) ∙ ap (λ (k : ℕ). sourceRowAt box SW y + k) c

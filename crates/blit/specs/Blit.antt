@@ -5,7 +5,7 @@ use Prim.Native.Nat.{ℕ, _+_, _-_, _*_, _/_, _%_}
 use lib.Dec.{leb}
 use lib.IntN.{ℤ}
 use lib.ListN.{length}
-use Rattle.laws.specs.Integer.{positive}
+use Rattle.arithmetic.specs.Integer.{positive}
 use Rattle.words.specs.Words.{word, painted}
 use Rattle.raster.specs.Raster.{ropped}
 use Rattle.clip_blit.specs.declared.BlitRect.{BlitRect}

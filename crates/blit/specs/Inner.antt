@@ -5,7 +5,7 @@ use mathlib.Core.List.{List}
 use Prim.Native.Nat.{ℕ, _+_, _-_, _*_, _/_, _%_, _≤_, _<_}
 use lib.Dec.{leb}
 use lib.ListN.{length}
-use Rattle.laws.specs.Interval.{between}
+use Rattle.arithmetic.specs.Interval.{between}
 use Rattle.words.specs.Words.{word, painted}
 use Rattle.raster.specs.Raster.{ropped}
 use Rattle.clip_blit.specs.declared.BlitRect.{BlitRect}
@@ -24,8 +24,8 @@ abbrev pub sourceRowAt : BlitRect → (src-w y : ℕ) → ℕ
 sourceRowAt box src-w y = (box .«src_y0» + (y - box .y0)) * src-w + box .«src_x0»
 
 -- the word of the source that is taken for word i of the destination
-abbrev pub taken : BlitRect → (width src-w i : ℕ) → ℕ
-taken box width src-w i = sourceRowAt box src-w (i / width) + (i % width - box .x0)
+abbrev pub sourceFor : BlitRect → (width src-w i : ℕ) → ℕ
+sourceFor box width src-w i = sourceRowAt box src-w (i / width) + (i % width - box .x0)
 
 -- row y's part of the source bytes, of which there are len, does not pass their end
 abbrev pub held : BlitRect → (src-w len y : ℕ) → Bool
@@ -41,7 +41,7 @@ rowFrom box width src-w table pat y src m =
 unfoldable pub rowsFrom : BlitRect → (width src-w table pat y : ℕ) → (src m : List ℕ) → List ℕ
 rowsFrom box width src-w table pat y src m =
     painted (wordsOf width (λ c r. rect (box .x0) (box .x1) (box .y0) y c r && held box src-w (length src) r))
-    (ropped table pat (λ i. word src (taken box width src-w i)) m) m
+    (ropped table pat (λ i. word src (sourceFor box width src-w i)) m) m
 
 -- The box's columns lie on a surface of that width.
 pub record Across (width : ℕ) (box : BlitRect) : Type 0 where

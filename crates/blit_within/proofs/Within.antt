@@ -11,9 +11,9 @@ use native.Mathlib.Omega.{arith}
 use lib.Dec.{leb}
 use lib.ListN.{length}
 use borrow.Author.Tests.{le-leb, lt-leb}
-use Rattle.laws.specs.Interval.{between}
-use Rattle.laws.proofs.Interval.{Lies, inside, before, behind, where-is, between-yes, between-no, between-cong, bounds}
-use Rattle.laws.proofs.Test.{both, not-left, not-right}
+use Rattle.arithmetic.specs.Interval.{between}
+use Rattle.arithmetic.proofs.Interval.{Lies, inside, before, behind, where-is, between-yes, between-no, between-cong, bounds}
+use Rattle.arithmetic.proofs.Test.{both, not-left, not-right}
 use Rattle.words.specs.Words.{word, painted}
 use Rattle.words.proofs.Painted.{painted-none, painted-same, word-kept}
 use Rattle.rop3.specs.Rop3.{applied}
@@ -22,7 +22,7 @@ use Rattle.clip_blit.specs.declared.BlitRect.{BlitRect}
 use Rattle.surface.specs.Region.{wordsOf}
 use Rattle.surface.proofs.Rows.{rect, run-row, row-fits, off-rows, no-rows}
 use Rattle.blit.specs.Blit.{Blit, clipped, region, sourceWord}
-use Rattle.blit.specs.Inner.{columns, rowAt, sourceRowAt, taken}
+use Rattle.blit.specs.Inner.{columns, rowAt, sourceRowAt, sourceFor}
 use Rattle.blit_within.specs.Inner.{blitWithin, Placed, rowWithin, rowsAt, rowsWithin, RoomWithin}
 use Rattle.blit.proofs.Pixels.{Empty, is-empty, across, down, boxed, none-drawn, taken-same}
 use Rattle.blit.proofs.Rows.{next-row, fits, in-row, taken-row, below, above}
@@ -50,7 +50,7 @@ room-kept e h = rw e h
 -- rows within one memory
 module _ (box : BlitRect) (at W src-at SW table pat : ℕ) (m₀ : List ℕ) (room : RoomWithin (length m₀) at W src-at SW box) where
   abbrev Word : ℕ → ℕ
-  Word i = word m₀ (src-at + taken box W SW (i - at))
+  Word i = word m₀ (src-at + sourceFor box W SW (i - at))
 
   -- no row is drawn
   pub first-within : (y : ℕ) → m₀ ≡ rowsWithin box at W src-at SW table pat y y m₀
@@ -195,7 +195,7 @@ module _ (b : Blit) (at src-at table pat : ℕ) (m : List ℕ) (P : Placed (leng
   whole-within : rowsWithin (clipped b) at (b .width) src-at (b .src-w) table pat (clipped b .y0) (clipped b .y1) m ≡ blitWithin b at src-at table pat m
   unfolding rowsWithin blitWithin
   whole-within =
-      painted-same (rowsAt (clipped b) at (b .width) (clipped b .y0) (clipped b .y1)) Region (ropped table pat (λ i. word m (src-at + taken (clipped b) (b .width) (b .src-w) (i - at))) m) New m
+      painted-same (rowsAt (clipped b) at (b .width) (clipped b .y0) (clipped b .y1)) Region (ropped table pat (λ i. word m (src-at + sourceFor (clipped b) (b .width) (b .src-w) (i - at))) m) New m
       (λ i lt. placed i)
       (λ i lt t. let d = both (between at end i) (wordsOf (b .width) (region b) (i - at)) t in
       let h = bounds at end i (d .0) in

@@ -6,14 +6,14 @@ use mathlib.Core.List.{List}
 use mathlib.Core.Logic.{_⊎_}
 use Prim.Native.Nat.{ℕ, _+_, _-_, _*_, _/_, _%_, _≤_, _<_}
 use lib.Dec.{leb}
-use Rattle.laws.specs.Interval.{between}
+use Rattle.arithmetic.specs.Interval.{between}
 use Rattle.words.specs.Words.{word, painted}
 use Rattle.raster.specs.Raster.{ropped}
 use Rattle.clip_blit.specs.declared.BlitRect.{BlitRect}
 use Rattle.surface.specs.Region.{wordsOf}
 use Rattle.surface.proofs.Rows.{rect}
 use Rattle.blit.specs.Blit.{Blit, region, sourceWord}
-use Rattle.blit.specs.Inner.{columns, rowAt, sourceRowAt, taken, Across}
+use Rattle.blit.specs.Inner.{columns, rowAt, sourceRowAt, sourceFor, Across}
 
 -- memory m after a blit from its surface at word src-at to its surface at word at: source pixels are those before the call
 unfoldable pub blitWithin : Blit → (at src-at table pat : ℕ) → (m : List ℕ) → List ℕ
@@ -44,7 +44,7 @@ rowsAt box at width top bottom i = leb at i && wordsOf width (rect (box .x0) (bo
 unfoldable pub rowsWithin : BlitRect → (at width src-at src-w table pat top bottom : ℕ) → (m : List ℕ) → List ℕ
 rowsWithin box at width src-at src-w table pat top bottom m =
     painted (rowsAt box at width top bottom)
-    (ropped table pat (λ i. word m (src-at + taken box width src-w (i - at))) m) m
+    (ropped table pat (λ i. word m (src-at + sourceFor box width src-w (i - at))) m) m
 
 -- The box and its source lie on surfaces of one memory of len bytes, which are one or have no row of theirs in common.
 pub record RoomWithin (len at width src-at src-w : ℕ) (box : BlitRect) : Type 0 where

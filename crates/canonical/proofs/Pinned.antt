@@ -10,8 +10,8 @@ use lib.IntN.{ℤ, pos, negsuc, _-ℤ_}
 use lib.ListN.{length, drop}
 use lib.Seq.{ext-getD, getD-drop}
 use borrow.Author.Tests.{eqb-true, leb-true, ne-eqb}
-use Rattle.laws.proofs.Integer.{difference, eq-parts}
-use Rattle.laws.proofs.Test.{both, each}
+use Rattle.arithmetic.proofs.Integer.{difference, eq-parts}
+use Rattle.arithmetic.proofs.Test.{both, each}
 use Rattle.words.specs.Parts.{part}
 use Rattle.bigendian.specs.BigEndian.{signed32}
 use Rattle.bigendian.proofs.Signed.{below-half, from-half}
@@ -21,15 +21,15 @@ use Rattle.gdi.specs.declared.GdiState.{GdiState}
 use Rattle.gdi.specs.declared.Slot.{Slot}
 use Rattle.gdi.specs.Lookup.{slotAt}
 use Rattle.numbers.specs.Layout.{dcSize, objectSize, slotSize, headSize, panelLenPlace, storeLenPlace, widthPlace, heightPlace, framesLowPlace, framesHighPlace, nextHandlePlace, stockDirtyPlace, countPlace, screenPlace, slotsPlace, slotPlace, kindPlace, objectPlace, surfaceIn, presentIn, bitmapIn, bkTransparentIn, bitmapWidthIn, bitmapHeightIn, bitmapDirtyIn, fontHeightIn, bitmapSize, brushSize, penSize, fontSize}
-use Rattle.numbers.specs.Block.{at, flagOf, isFlag, bit, surfaceOf, bitmapOf, dcOf, isDc, objectOf, zerosFrom, isObject, ObjectCoded, slotOf, isSlot}
-use Rattle.numbers.specs.View.{view, isRecord, Stored}
+use Rattle.numbers.specs.Block.{at, flagOf, isFlag, flagNumber, surfaceOf, bitmapOf, dcFields, isDc, objectOf, zerosFrom, isObject, ObjectCoded, slotOf, isSlot}
+use Rattle.numbers.specs.View.{view, isRecord, Updated}
 use Rattle.numbers.proofs.Block.{surfaceNumber, presentNumber, bitmapNumber, no-kind, dcNumbers}
 use Rattle.numbers.proofs.Record.{parts}
 use Rattle.numbers.proofs.Seen.{part-at, count-seen}
-use Rattle.numbers.proofs.View.{benchNumbers, slot-seen}
+use Rattle.numbers.proofs.View.{deviceNumbers, slot-seen}
 
 -- flags, surfaces and bitmaps come back as their numbers
-flag-number : (n : ℕ) → n ≤ 1 → n ≡ bit (flagOf n)
+flag-number : (n : ℕ) → n ≤ 1 → n ≡ flagNumber (flagOf n)
 flag-number zero h = refl
 flag-number (suc zero) h = refl
 flag-number (suc (suc n)) h = absurd (omega arith)
@@ -92,15 +92,15 @@ zeros-behind l k t i lt = by (decLt i k)
         ap (at l) e ∙ eqb-true (at l (k + (i - k))) 0 (each (objectSize - k) (λ j. eqb (at l (k + j)) 0) t (i - k) (omega arith)) ∙ sym (listed-behind l 0 k i (omega arith))
 
 -- a DC's numbers, from the DC
-dc-listed : (l : List ℕ) → isDc l ≡ true → listed l 0 dcSize ≡ dcNumbers (dcOf l)
-unfolding isDc dcOf
+dc-listed : (l : List ℕ) → isDc l ≡ true → listed l 0 dcSize ≡ dcNumbers (dcFields l)
+unfolding isDc dcFields
 dc-listed l t =
     let chosen : Bool = flagOf (at l presentIn) || (eqb (at l presentIn) 0 && eqb (at l bitmapIn) 0) in
     let a = both (isFlag (at l surfaceIn)) (isFlag (at l bkTransparentIn) && chosen) t in
     let b = both (isFlag (at l bkTransparentIn)) chosen (a .1) in
     rw (← surface-number (at l surfaceIn) (leb-true (at l surfaceIn) 1 (a .0)), ← present-number (at l presentIn) (at l bitmapIn) (b .1), ← bitmap-number (at l presentIn) (at l bitmapIn) (b .1), ← flag-number (at l bkTransparentIn) (leb-true (at l bkTransparentIn) 1 (b .0)))
 
-dc-back : (l : List ℕ) → isDc l ≡ true → (i : ℕ) → i < dcSize → at l i ≡ at (dcNumbers (dcOf l)) i
+dc-back : (l : List ℕ) → isDc l ≡ true → (i : ℕ) → i < dcSize → at l i ≡ at (dcNumbers (dcFields l)) i
 dc-back l t i lt = zeros-behind l dcSize refl i lt ∙ ap (λ (d : List ℕ). at d i) (dc-listed l t)
 
 -- an object's kind and numbers, from the object; the numbers past these are 0
@@ -113,7 +113,7 @@ kindNumber (Font x) = 4
 
 abbrev objectNumbers : GdiObject → List ℕ
 objectNumbers (DcOf d) = dcNumbers d
-objectNumbers (Bitmap x) = x .width ∷ x .height ∷ bit (x .«host_dirty») ∷ []
+objectNumbers (Bitmap x) = x .width ∷ x .height ∷ flagNumber (x .«host_dirty») ∷ []
 objectNumbers (Brush x) = x .color .0 ∷ []
 objectNumbers (Pen x) = x .color .0 ∷ x .width ∷ []
 objectNumbers (Font x) = complement (x .height) ∷ []
@@ -154,16 +154,16 @@ slot-back l b t (suc (suc i)) lt =
 
 -- what the numbers of a record are, by the record
 module _ (l : List ℕ) (small : (k : ℕ) → at l k < 2 ^ 32) (r : isRecord l ≡ true) where
-  bench-listed : listed l 0 headSize ≡ benchNumbers (view l)
+  device-listed : listed l 0 headSize ≡ deviceNumbers (view l)
   unfolding view
-  bench-listed =
+  device-listed =
       let low : at l framesLowPlace ≡ (at l framesLowPlace + 4294967296 * at l framesHighPlace) % 4294967296 = omega (arith, small framesLowPlace) in
       let high : at l framesHighPlace ≡ (at l framesLowPlace + 4294967296 * at l framesHighPlace) / 4294967296 = omega (arith, small framesLowPlace) in
       let flag = flag-number (at l stockDirtyPlace) (parts l r .flag) in
       λ i. at l panelLenPlace ∷ at l storeLenPlace ∷ at l widthPlace ∷ at l heightPlace ∷ low i ∷ high i ∷ at l nextHandlePlace ∷ flag i ∷ at l countPlace ∷ []
 
-  bench-back : (k : ℕ) → k < headSize → at l k ≡ at (benchNumbers (view l)) k
-  bench-back k lt = ap (at l) (omega arith) ∙ listed-within l 0 headSize k lt ∙ ap (λ (d : List ℕ). at d k) bench-listed
+  device-back : (k : ℕ) → k < headSize → at l k ≡ at (deviceNumbers (view l)) k
+  device-back k lt = ap (at l) (omega arith) ∙ listed-within l 0 headSize k lt ∙ ap (λ (d : List ℕ). at d k) device-listed
 
   screen-back : (k : ℕ) → k < dcSize → at l (screenPlace + k) ≡ at (dcNumbers (view l .screen)) k
   unfolding view
@@ -184,7 +184,7 @@ same-numbers l m sl sm rl rm e rest =
     counts = sym (count-seen l) ∙ ap (λ (b : GdiState). b .count) e ∙ count-seen m
 
     by : (k : ℕ) → Dec (k < headSize) → Dec (k < slotsPlace) → Dec (k < slotPlace (at l countPlace)) → at l k ≡ at m k
-    by k (yes a) b c = bench-back l sl rl k a ∙ ap (λ (b : GdiState). at (benchNumbers b) k) e ∙ sym (bench-back m sm rm k a)
+    by k (yes a) b c = device-back l sl rl k a ∙ ap (λ (b : GdiState). at (deviceNumbers b) k) e ∙ sym (device-back m sm rm k a)
     by k (no a) (yes b) c =
         let i : screenPlace + (k - screenPlace) ≡ k = omega arith in
         rw i at (screen-back l sl rl (k - screenPlace) (omega arith) ∙ ap (λ (b : GdiState). at (dcNumbers (b .screen)) (k - screenPlace)) e ∙ sym (screen-back m sm rm (k - screenPlace) (omega arith)))
@@ -202,11 +202,11 @@ same-numbers l m sl sm rl rm e rest =
         ∙ getD-drop (slotPlace (at m countPlace)) m (k - slotPlace (at l countPlace)) 0 ∙ ap (at m) j
 
 -- numbers that became a record are determined by the numbers before and the record
-pub stored-unique : (l l′ k′ : List ℕ) (b : GdiState) → ((k : ℕ) → at l′ k < 2 ^ 32) → ((k : ℕ) → at k′ k < 2 ^ 32) → Stored l b l′ → Stored l b k′ → l′ ≡ k′
-stored-unique l l′ k′ b sl sk x y =
+pub updated-unique : (l l′ k′ : List ℕ) (b : GdiState) → ((k : ℕ) → at l′ k < 2 ^ 32) → ((k : ℕ) → at k′ k < 2 ^ 32) → Updated l b l′ → Updated l b k′ → l′ ≡ k′
+updated-unique l l′ k′ b sl sk x y =
     same-numbers l′ k′ sl sk (x .is-record) (y .is-record) (x .same ∙ sym (y .same)) (rest l′ x ∙ sym (rest k′ y))
   where
-    rest : (m : List ℕ) → Stored l b m → drop (slotPlace (at m countPlace)) m ≡ drop (slotPlace (b .count)) l
+    rest : (m : List ℕ) → Updated l b m → drop (slotPlace (at m countPlace)) m ≡ drop (slotPlace (b .count)) l
     rest m z = ap (λ (n : ℕ). drop (slotPlace n) m) (sym (count-seen m) ∙ ap (λ (s : GdiState). s .count) (z .same)) ∙ z .rest
 
 -- and so are an object's kind and numbers by the object

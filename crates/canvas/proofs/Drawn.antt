@@ -6,7 +6,7 @@ use Prim.Native.Nat.{ℕ, _≤_, _<_}
 use lib.Dec.{ltb}
 use mir.Syntax.{w32}
 use mir.Val.{SFits}
-use Rattle.laws.proofs.Machine.{held32, stored32}
+use Rattle.arithmetic.proofs.Machine.{held32, stored32}
 use Rattle.words.specs.Words.{painted}
 use Rattle.rop3.specs.Rop3.{tableOf}
 use Rattle.raster.specs.Raster.{ropped}
@@ -19,7 +19,7 @@ use Rattle.plan.specs.declared.Area.{Area}
 use Rattle.plan.specs.declared.Point.{Point}
 use Rattle.canvas.specs.declared.Drawing.{Drawing}
 use Rattle.canvas.specs.declared.Drawing.the-variants.{Fill, Outline, Text}
-use Rattle.canvas.specs.Inner.{marksOf, drawnOf, Countable}
+use Rattle.canvas.specs.Inner.{marksOf, drawnOf, UnitsFit}
 
 -- one colour is PATCOPY's table on it
 solid : (P : ℕ → Bool) (c : ℕ) (m : List ℕ) → c < 65536 → painted P (λ _. c) m ≡ painted P (ropped 0xF0 c (λ _. 0) m) m
@@ -52,5 +52,5 @@ module _ {g : Drawing} (us : List ℕ) (c width height : ℕ) (m : List ℕ) {m�
       → Drawn g us c width height m (ltb 0 n) m′
   as-text {p} x y small e q = (rw e, q ∙ solid _ c m small ∙ rw (stored32 (p .x) x, stored32 (p .y) y, e))
 
-pub countable : {g : Drawing} (len : ℕ) {p : Point} {n : ℕ} → Countable g len → g ≡ Text p n → (n ≤ len) × (n ≤ 65535)
-countable len k e = subst (λ (v : Drawing). Countable v len) e k
+pub countable : {g : Drawing} (len : ℕ) {p : Point} {n : ℕ} → UnitsFit g len → g ≡ Text p n → (n ≤ len) × (n ≤ 65535)
+countable len k e = subst (λ (v : Drawing). UnitsFit v len) e k

@@ -5,7 +5,7 @@ ghost use Rattle.surface.proofs.Accepted.{InOrder};
 ghost use Rattle.place.specs.Place.{Within};
 ghost use Rattle.paint.specs.Memories.{memories, widthOf, over};
 ghost use Rattle.plan.specs.Drawing.{marksAt};
-ghost use Rattle.canvas.specs.Inner.{marksOf, drawnOf, Countable};
+ghost use Rattle.canvas.specs.Inner.{marksOf, drawnOf, UnitsFit};
 use color::Rgb565;
 use place::Memory;
 use place::Place;
@@ -29,7 +29,7 @@ pub fn draw_at(
     color: Rgb565,
 ) -> bool
     requires { ⌜ Within (length (now panel)) (length (now store)) at ⌝ }
-    requires { ⌜ Countable drawing (length (now units)) ⌝ }
+    requires { ⌜ UnitsFit drawing (length (now units)) ⌝ }
     ensures { λ r. ⌜ r ≡ marksAt at (marksOf drawing) ⌝ }
     ensures bytes { λ _. ⌜ memories (now (panel .exit)) (now (store .exit)) ≡ over at (drawnOf drawing (now (units .entry)) (color .0) (widthOf at)) (memories (now (panel .entry)) (now (store .entry))) ⌝ }
 {
@@ -59,7 +59,7 @@ fn draw_on(
     color: Rgb565,
 ) -> bool
     requires { ⌜ InOrder width height (length (now pixels)) ⌝ }
-    requires { ⌜ Countable drawing (length (now units)) ⌝ }
+    requires { ⌜ UnitsFit drawing (length (now units)) ⌝ }
     ensures { λ r. ⌜ r ≡ marksOf drawing width height ⌝ }
     ensures bytes { λ _. ⌜ now (pixels .exit) ≡ drawnOf drawing (now (units .entry)) (color .0) width (now (pixels .entry)) ⌝ }
 {

@@ -8,12 +8,12 @@ use lib.Dec.{leb, ltb}
 use lib.IntN.{ℤ, pos, negsuc, _+ℤ_}
 use lib.Signed.{leZ, ltZ}
 use borrow.Author.Tests.{leb-true}
-use Rattle.laws.specs.Interval.{between}
-use Rattle.laws.specs.Integer.{positive}
-use Rattle.laws.specs.Inner.{negative}
-use Rattle.laws.proofs.Integer.{sum, le-parts, lt-parts, one-part}
-use Rattle.laws.proofs.Interval.{between-no}
-use Rattle.laws.proofs.Test.{same-order}
+use Rattle.arithmetic.specs.Interval.{between}
+use Rattle.arithmetic.specs.Integer.{positive}
+use Rattle.arithmetic.specs.Inner.{negative}
+use Rattle.arithmetic.proofs.Integer.{sum, le-parts, lt-parts, one-part}
+use Rattle.arithmetic.proofs.Interval.{between-no}
+use Rattle.arithmetic.proofs.Test.{same-order}
 use Rattle.clip.specs.declared.Rect.{Rect}
 use Rattle.clip.specs.Clip.{nearest, covers, clippedAxis, clippedRect}
 

@@ -8,17 +8,17 @@ use lib.Dec.{ltb}
 use lib.IntN.{ℤ, pos, negsuc, _+ℤ_, _-ℤ_}
 use lib.Signed.{leZ, ltZ}
 use borrow.Author.Tests.{ltb-true, ltb-false}
-use Rattle.laws.specs.Interval.{between}
-use Rattle.laws.specs.Integer.{positive}
-use Rattle.laws.specs.Inner.{negative}
-use Rattle.laws.proofs.Integer.{sum, difference, eq-parts, le-moved, lt-moved}
-use Rattle.laws.proofs.Interval.{Lies, where-is, between-yes, between-no, bounds}
-use Rattle.laws.proofs.Test.{both}
+use Rattle.arithmetic.specs.Interval.{between}
+use Rattle.arithmetic.specs.Integer.{positive}
+use Rattle.arithmetic.specs.Inner.{negative}
+use Rattle.arithmetic.proofs.Integer.{sum, difference, eq-parts, le-moved, lt-moved}
+use Rattle.arithmetic.proofs.Interval.{Lies, where-is, between-yes, between-no, bounds}
+use Rattle.arithmetic.proofs.Test.{both}
 use Rattle.clip.specs.declared.Span.{Span}
 use Rattle.clip_blit.specs.declared.BlitSpan.{BlitSpan}
 use Rattle.clip_blit.specs.declared.BlitRect.{BlitRect}
 use Rattle.clip.specs.Clip.{nearest, covers, clippedAxis}
-use Rattle.clip_blit.specs.Blit.{sourceAt, inside, drawn, drawnAt, shifted, placed, nothing, blitAxis, blitRect}
+use Rattle.clip_blit.specs.Blit.{sourceAt, inside, drawnAlong, drawnAt, shifted, placed, nothing, blitAxis, blitRect}
 use Rattle.clip.proofs.Clip.{clip-covers, clip-within}
 
 -- The stretch b lies on the destination and its source on the source; it holds the drawn coordinates, each with its own source.
@@ -26,7 +26,7 @@ pub record Clipped (d s w : ℤ) (dst-side src-side : ℕ) (b : BlitSpan) : Type
   pub ordered : b .from ≤ b .to
   pub within : b .to ≤ dst-side
   pub source : b .src + (b .to - b .from) ≤ src-side
-  pub exact : (i : ℕ) → i < dst-side → between (b .from) (b .to) i ≡ drawn d s w src-side i
+  pub exact : (i : ℕ) → i < dst-side → between (b .from) (b .to) i ≡ drawnAlong d s w src-side i
   pub taken : (i : ℕ) → b .from ≤ i → i < b .to → pos (b .src + (i - b .from)) ≡ sourceAt d s i
 
 inside-parts : (z : ℤ) (side : ℕ) → inside z side ≡ true → (negative z ≡ 0) × (positive z < side)
@@ -34,7 +34,7 @@ inside-parts (pos k) side e = (refl, bounds 0 side k e .1)
 inside-parts (negsuc k) side e = absurd (true≢false (sym e))
 
 -- what is taken for a drawn coordinate is inside the source
-pub drawn-source : (d s w : ℤ) (src-side i : ℕ) → drawn d s w src-side i ≡ true → positive (sourceAt d s i) < src-side
+pub drawn-source : (d s w : ℤ) (src-side i : ℕ) → drawnAlong d s w src-side i ≡ true → positive (sourceAt d s i) < src-side
 drawn-source d s w src-side i e = inside-parts (sourceAt d s i) src-side (both (covers d w i) (inside (sourceAt d s i) src-side) e .1) .1
 
 -- the cut source holds the coordinates of s .. s + w inside the source
@@ -97,7 +97,7 @@ module _ (d s w : ℤ) (dst-side src-side : ℕ) where
   abbrev on : Span
   on = placed d s source dst-side
 
-  on-exact : (i : ℕ) → i < dst-side → between (on .from) (on .to) i ≡ drawn d s w src-side i
+  on-exact : (i : ℕ) → i < dst-side → between (on .from) (on .to) i ≡ drawnAlong d s w src-side i
   on-exact i h =
       clip-covers (shifted d s source) (pos (source .to) -ℤ pos (source .from)) dst-side h
       ∙ cut-moved d s i source

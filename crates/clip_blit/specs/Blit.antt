@@ -4,7 +4,7 @@ use Prim.Native.Nat.{ℕ}
 use lib.Dec.{ltb}
 use lib.IntN.{ℤ, pos, _+ℤ_, _-ℤ_}
 use lib.Signed.{leZ, ltZ}
-use Rattle.laws.specs.Integer.{positive}
+use Rattle.arithmetic.specs.Integer.{positive}
 use Rattle.clip.specs.declared.Span.{Span}
 use Rattle.clip_blit.specs.declared.BlitSpan.{BlitSpan}
 use Rattle.clip_blit.specs.declared.BlitRect.{BlitRect}
@@ -19,12 +19,12 @@ abbrev pub inside : ℤ → ℕ → Bool
 inside z side = leZ (pos 0) z && ltZ z (pos side)
 
 -- i is in d .. d + w, and its source coordinate is inside the source
-abbrev pub drawn : (d s w : ℤ) → (src-side i : ℕ) → Bool
-drawn d s w src-side i = covers d w i && inside (sourceAt d s i) src-side
+abbrev pub drawnAlong : (d s w : ℤ) → (src-side i : ℕ) → Bool
+drawnAlong d s w src-side i = covers d w i && inside (sourceAt d s i) src-side
 
 -- the pixel at column c and row r is in the box, and its source pixel is inside the source
 abbrev pub drawnAt : (dx dy sx sy w h : ℤ) → (src-w src-h c r : ℕ) → Bool
-drawnAt dx dy sx sy w h src-w src-h c r = drawn dx sx w src-w c && drawn dy sy h src-h r
+drawnAt dx dy sx sy w h src-w src-h c r = drawnAlong dx sx w src-w c && drawnAlong dy sy h src-h r
 
 -- the destination, shifted by what was cut off the source's start
 abbrev pub shifted : ℤ → ℤ → Span → ℤ

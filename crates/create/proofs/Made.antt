@@ -10,7 +10,7 @@ use Rattle.gdi.specs.declared.GdiObject.the-variants.{Bitmap}
 use Rattle.gdi.specs.Record.{bytesOf, freshBitmap}
 use Rattle.numbers.specs.Layout.{storeLenPlace, countPlace}
 use Rattle.numbers.specs.Block.{at}
-use Rattle.numbers.specs.View.{view, isRecord, Stored}
+use Rattle.numbers.specs.View.{view, isRecord, Updated}
 use Rattle.numbers.proofs.Seen.{count-seen, store-len-seen}
 use Rattle.sound.specs.Sound.{startOf, used}
 use Rattle.memory.specs.Gap.{blanked}
@@ -18,9 +18,9 @@ use Rattle.handles.specs.Handles.{newHandle, addedAs, added}
 use Rattle.paint.specs.Memories.{Memories, memories}
 use Rattle.paint.specs.Paint.{paintedBy, after}
 use Rattle.plan.specs.Answer.{Parts, refused, answered}
-use Rattle.plan.specs.Create.{made, createOf, sideOf, createBitmap}
+use Rattle.plan.specs.Create.{creation, createOf, sideOf, createBitmap}
 use Rattle.plan.specs.Followed.{Followed}
-use Rattle.plan.proofs.Create.{full-plan, short-plan, made-plan, side-fits, wide-plan, high-plan, bitmap-plan}
+use Rattle.plan.proofs.Create.{full-plan, short-plan, creation-plan, side-fits, wide-plan, high-plan, bitmap-plan}
 use Rattle.plan.proofs.Followed.{followed-as, refusal, acceptance}
 
 -- `make`: a full table, a full store, and a new object
@@ -38,14 +38,14 @@ module _ (l : List ℕ) (r : isRecord l ≡ true) (o : GdiObject) where
     pub short : at l storeLenPlace < start + n → (ms : Memories) → Followed (createOf (view l) o) l ms (refused 7) l ms
     short lt ms = refusal r (short-plan (view l) o fewer (omega (arith, store-len-seen l, ends, bytes)))
 
-    pub new : {h : ℕ} {l′ s s′ : List ℕ} → start + n ≤ at l storeLenPlace → s′ ≡ blanked s start n → h ≡ newHandle (view l) → Stored l (addedAs (view l) h o) l′
+    pub new : {h : ℕ} {l′ s s′ : List ℕ} → start + n ≤ at l storeLenPlace → s′ ≡ blanked s start n → h ≡ newHandle (view l) → Updated l (addedAs (view l) h o) l′
         → (panel : List ℕ) → Followed (createOf (view l) o) l (memories panel s) (answered h) l′ (memories panel s′)
     unfolding after paintedBy added
     new fits zeroed named appended panel =
         acceptance refl (rw (plan, named)) appended (rw plan (ap (memories panel) (zeroed ∙ rw (ends, bytes))))
       where
-        plan : createOf (view l) o ≡ made (view l) o
-        plan = made-plan (view l) o fewer (omega (arith, store-len-seen l, ends, bytes, fits))
+        plan : createOf (view l) o ≡ creation (view l) o
+        plan = creation-plan (view l) o fewer (omega (arith, store-len-seen l, ends, bytes, fits))
 
 -- `create_compatible_bitmap`: a side too long, and the sides that the code takes
 module _ (l : List ℕ) (w h : ℕ) where

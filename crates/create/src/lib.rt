@@ -32,23 +32,23 @@ pub const TABLE_FULL: u32 = 5;
 pub const STORE_FULL: u32 = 7;
 
 // The new object behind the others, its pixels black.
-fn make(l: &mut [u32], store: &mut [u8], object: GdiObject) -> Answer
-    requires { ⌜ Lent (now l) (view (now l) .«panel_len») (length (now store)) ⌝ }
+fn make(numbers: &mut [u32], store: &mut [u8], object: GdiObject) -> Answer
+    requires { ⌜ Lent (now numbers) (view (now numbers) .«panel_len») (length (now store)) ⌝ }
     requires { ⌜ objectFits object ≡ true ⌝ }
-    ensures { λ r. ⌜ ((panel : List ℕ) → Followed (createOf (view (now (l .entry))) object) (now (l .entry)) (memories panel (now (store .entry))) (partsOf r) (now (l .exit)) (memories panel (now (store .exit)))) ⌝ }
+    ensures { λ r. ⌜ ((panel : List ℕ) → Followed (createOf (view (now (numbers .entry))) object) (now (numbers .entry)) (memories panel (now (store .entry))) (partsOf r) (now (numbers .exit)) (memories panel (now (store .exit)))) ⌝ }
 {
-    let count = l[COUNT] as usize;
+    let count = numbers[COUNT] as usize;
     if count >= MAX_OBJECTS {
         return Answer::Refused(TABLE_FULL);
     }
-    let start = sound::start_of(l, count);
+    let start = sound::start_of(numbers, count);
     let n = sound::object_bytes(object);
-    if start + n > l[STORE_LEN] as usize {
+    if start + n > numbers[STORE_LEN] as usize {
         return Answer::Refused(STORE_FULL);
     }
     memory::zero(store, start, n);
-    let h = handles::alloc_handle(l);
-    handles::append(l, h, object);
+    let h = handles::alloc_handle(numbers);
+    handles::append(numbers, h, object);
     Answer::Handle(h)
 }
 
@@ -59,9 +59,14 @@ fn side_of(n: u32) -> u32
     if n == 0 { 1 } else { n }
 }
 
-pub fn create_compatible_bitmap(l: &mut [u32], store: &mut [u8], width: u32, height: u32) -> Answer
-    requires { ⌜ Lent (now l) (view (now l) .«panel_len») (length (now store)) ⌝ }
-    ensures { λ r. ⌜ ((panel : List ℕ) → Followed (createBitmap (view (now (l .entry))) width height) (now (l .entry)) (memories panel (now (store .entry))) (partsOf r) (now (l .exit)) (memories panel (now (store .exit)))) ⌝ }
+pub fn create_compatible_bitmap(
+    numbers: &mut [u32],
+    store: &mut [u8],
+    width: u32,
+    height: u32,
+) -> Answer
+    requires { ⌜ Lent (now numbers) (view (now numbers) .«panel_len») (length (now store)) ⌝ }
+    ensures { λ r. ⌜ ((panel : List ℕ) → Followed (createBitmap (view (now (numbers .entry))) width height) (now (numbers .entry)) (memories panel (now (store .entry))) (partsOf r) (now (numbers .exit)) (memories panel (now (store .exit)))) ⌝ }
 {
     if width > MAX_SIDE {
         return Answer::Refused(BAD_SIDE);
@@ -73,41 +78,41 @@ pub fn create_compatible_bitmap(l: &mut [u32], store: &mut [u8], width: u32, hei
     let h = side_of(height);
     let m = gdi::new_bitmap(w, h);
     let o = GdiObject::Bitmap(m);
-    make(l, store, o)
+    make(numbers, store, o)
 }
 
-pub fn create_memory_dc(l: &mut [u32], store: &mut [u8]) -> Answer
-    requires { ⌜ Lent (now l) (view (now l) .«panel_len») (length (now store)) ⌝ }
-    ensures { λ r. ⌜ ((panel : List ℕ) → Followed (createOf (view (now (l .entry))) (DcOf defaultDc)) (now (l .entry)) (memories panel (now (store .entry))) (partsOf r) (now (l .exit)) (memories panel (now (store .exit)))) ⌝ }
+pub fn create_memory_dc(numbers: &mut [u32], store: &mut [u8]) -> Answer
+    requires { ⌜ Lent (now numbers) (view (now numbers) .«panel_len») (length (now store)) ⌝ }
+    ensures { λ r. ⌜ ((panel : List ℕ) → Followed (createOf (view (now (numbers .entry))) (DcOf defaultDc)) (now (numbers .entry)) (memories panel (now (store .entry))) (partsOf r) (now (numbers .exit)) (memories panel (now (store .exit)))) ⌝ }
 {
     let d = gdi::default_dc();
     let o = GdiObject::Dc(d);
-    make(l, store, o)
+    make(numbers, store, o)
 }
 
-pub fn create_solid_brush(l: &mut [u32], store: &mut [u8], color: Colorref) -> Answer
-    requires { ⌜ Lent (now l) (view (now l) .«panel_len») (length (now store)) ⌝ }
-    ensures { λ r. ⌜ ((panel : List ℕ) → Followed (createOf (view (now (l .entry))) (BrushOf (record { color = color }))) (now (l .entry)) (memories panel (now (store .entry))) (partsOf r) (now (l .exit)) (memories panel (now (store .exit)))) ⌝ }
+pub fn create_solid_brush(numbers: &mut [u32], store: &mut [u8], color: Colorref) -> Answer
+    requires { ⌜ Lent (now numbers) (view (now numbers) .«panel_len») (length (now store)) ⌝ }
+    ensures { λ r. ⌜ ((panel : List ℕ) → Followed (createOf (view (now (numbers .entry))) (BrushOf (record { color = color }))) (now (numbers .entry)) (memories panel (now (store .entry))) (partsOf r) (now (numbers .exit)) (memories panel (now (store .exit)))) ⌝ }
 {
     let o = GdiObject::Brush(Brush { color: color });
-    make(l, store, o)
+    make(numbers, store, o)
 }
 
-pub fn create_pen(l: &mut [u32], store: &mut [u8], color: Colorref, width: u32) -> Answer
-    requires { ⌜ Lent (now l) (view (now l) .«panel_len») (length (now store)) ⌝ }
-    ensures { λ r. ⌜ ((panel : List ℕ) → Followed (createOf (view (now (l .entry))) (PenOf (record { color = color; width = width }))) (now (l .entry)) (memories panel (now (store .entry))) (partsOf r) (now (l .exit)) (memories panel (now (store .exit)))) ⌝ }
+pub fn create_pen(numbers: &mut [u32], store: &mut [u8], color: Colorref, width: u32) -> Answer
+    requires { ⌜ Lent (now numbers) (view (now numbers) .«panel_len») (length (now store)) ⌝ }
+    ensures { λ r. ⌜ ((panel : List ℕ) → Followed (createOf (view (now (numbers .entry))) (PenOf (record { color = color; width = width }))) (now (numbers .entry)) (memories panel (now (store .entry))) (partsOf r) (now (numbers .exit)) (memories panel (now (store .exit)))) ⌝ }
 {
     let o = GdiObject::Pen(Pen {
         color: color,
         width: width,
     });
-    make(l, store, o)
+    make(numbers, store, o)
 }
 
-pub fn create_font(l: &mut [u32], store: &mut [u8], height: i32) -> Answer
-    requires { ⌜ Lent (now l) (view (now l) .«panel_len») (length (now store)) ⌝ }
-    ensures { λ r. ⌜ ((panel : List ℕ) → Followed (createOf (view (now (l .entry))) (FontOf (record { height = height }))) (now (l .entry)) (memories panel (now (store .entry))) (partsOf r) (now (l .exit)) (memories panel (now (store .exit)))) ⌝ }
+pub fn create_font(numbers: &mut [u32], store: &mut [u8], height: i32) -> Answer
+    requires { ⌜ Lent (now numbers) (view (now numbers) .«panel_len») (length (now store)) ⌝ }
+    ensures { λ r. ⌜ ((panel : List ℕ) → Followed (createOf (view (now (numbers .entry))) (FontOf (record { height = height }))) (now (numbers .entry)) (memories panel (now (store .entry))) (partsOf r) (now (numbers .exit)) (memories panel (now (store .exit)))) ⌝ }
 {
     let o = GdiObject::Font(Font { height: height });
-    make(l, store, o)
+    make(numbers, store, o)
 }

@@ -5,19 +5,19 @@ use color::Colorref;
 use gdi::Dc;
 
 // A DC with another colour, and the one that it had.
-pub struct Recolored {
+pub struct ColorChange {
     pub dc: Dc,
     pub old: Colorref,
 }
 
 // A DC with another alignment, and the one that it had.
-pub struct Realigned {
+pub struct AlignChange {
     pub dc: Dc,
     pub old: u32,
 }
 
 // A DC with another background mode, and the one that it had.
-pub struct Remoded {
+pub struct ModeChange {
     pub dc: Dc,
     pub old: bool,
 }
@@ -59,48 +59,48 @@ pub fn set_bk_mode(dc: &mut Dc, transparent: bool) -> bool
 }
 
 // set_text_color on a record by value.
-pub fn with_text_color(dc: Dc, color: Colorref) -> Recolored
+pub fn with_text_color(dc: Dc, color: Colorref) -> ColorChange
     ensures { λ r. ⌜ (r .old ≡ dc .«text_color») × (r .dc ≡ withTextColor dc color) ⌝ }
 {
     let mut after = dc;
     let old = set_text_color(&mut after, color);
-    Recolored {
+    ColorChange {
         dc: after,
         old: old,
     }
 }
 
 // set_text_align on a record by value.
-pub fn with_text_align(dc: Dc, align: u32) -> Realigned
+pub fn with_text_align(dc: Dc, align: u32) -> AlignChange
     ensures { λ r. ⌜ (r .old ≡ dc .«text_align») × (r .dc ≡ withTextAlign dc align) ⌝ }
 {
     let mut after = dc;
     let old = set_text_align(&mut after, align);
-    Realigned {
+    AlignChange {
         dc: after,
         old: old,
     }
 }
 
 // set_bk_color on a record by value.
-pub fn with_bk_color(dc: Dc, color: Colorref) -> Recolored
+pub fn with_bk_color(dc: Dc, color: Colorref) -> ColorChange
     ensures { λ r. ⌜ (r .old ≡ dc .«bk_color») × (r .dc ≡ withBkColor dc color) ⌝ }
 {
     let mut after = dc;
     let old = set_bk_color(&mut after, color);
-    Recolored {
+    ColorChange {
         dc: after,
         old: old,
     }
 }
 
 // set_bk_mode on a record by value.
-pub fn with_bk_mode(dc: Dc, transparent: bool) -> Remoded
+pub fn with_bk_mode(dc: Dc, transparent: bool) -> ModeChange
     ensures { λ r. ⌜ (r .old ≡ dc .«bk_transparent») × (r .dc ≡ withBkMode dc transparent) ⌝ }
 {
     let mut after = dc;
     let old = set_bk_mode(&mut after, transparent);
-    Remoded {
+    ModeChange {
         dc: after,
         old: old,
     }

@@ -14,7 +14,7 @@ use Rattle.gdi.specs.Stock.{isStock}
 use Rattle.gdi.specs.Lookup.{objectAt, findOf}
 use Rattle.numbers.specs.Layout.{objectSize, slotSize, countPlace, slotPlace, kindPlace, objectPlace}
 use Rattle.numbers.specs.Block.{at, objectOf}
-use Rattle.numbers.specs.View.{view, isRecord, Stored}
+use Rattle.numbers.specs.View.{view, isRecord, Updated}
 use Rattle.numbers.proofs.Seen.{object-seen}
 use Rattle.sound.specs.Sound.{startOf, used}
 use Rattle.memory.specs.Gap.{closedUp}
@@ -22,8 +22,8 @@ use Rattle.removal.specs.Removal.{withoutAt}
 use Rattle.paint.specs.Memories.{memories}
 use Rattle.paint.specs.Paint.{paintedBy, after}
 use Rattle.plan.specs.Answer.{Parts}
-use Rattle.plan.specs.Plan.{told}
-use Rattle.plan.specs.Delete.{goneAt, goes}
+use Rattle.plan.specs.Plan.{recordOnly}
+use Rattle.plan.specs.Delete.{deletionAt, deletionOf}
 use Rattle.plan.specs.Followed.{Followed}
 use Rattle.plan.proofs.Followed.{acceptance}
 
@@ -34,25 +34,25 @@ module _ (l : List ℕ) (r : isRecord l ≡ true) (i : ℕ) (lt : i < at l count
 
 -- the cases of a plan: a stock object, a created one and none
 module _ (stock : Parts) (gone : ℕ → Parts) (none : Parts) (b : GdiState) (h : ℕ) where
-  pub stays : isStock h ≡ true → goes stock gone none b h ≡ told b stock
-  unfolding goes
+  pub stays : isStock h ≡ true → deletionOf stock gone none b h ≡ recordOnly b stock
+  unfolding deletionOf
   stays e = rw e
 
   module _ (ns : isStock h ≡ false) {q : Found} (f : q ≡ findOf b h) where
-    looked : goes stock gone none b h ≡ goneAt gone none b h q
-    unfolding goes
+    looked : deletionOf stock gone none b h ≡ deletionAt gone none b h q
+    unfolding deletionOf
     looked = rw (ns, ← f)
 
-    pub is-none : q ≡ Nothing → goes stock gone none b h ≡ told b none
+    pub is-none : q ≡ Nothing → deletionOf stock gone none b h ≡ recordOnly b none
     is-none g = looked ∙ rw g
 
-    pub leaves : {i : ℕ} → q ≡ At i → goes stock gone none b h ≡ goneAt gone none b h (At i)
+    pub leaves : {i : ℕ} → q ≡ At i → deletionOf stock gone none b h ≡ deletionAt gone none b h (At i)
     leaves g = looked ∙ rw g
 
 -- a created object that was taken out, with the answer a
 pub gone-followed : (stock : Parts) (gone : ℕ → Parts) (none : Parts) (l : List ℕ) (h : ℕ) {i : ℕ} {a : Parts} {l′ store store′ : List ℕ}
-    → goes stock gone none (view l) h ≡ goneAt gone none (view l) h (At i) → a ≡ gone i → a .number ≡ 0 → Stored l (withoutAt (view l) i) l′
+    → deletionOf stock gone none (view l) h ≡ deletionAt gone none (view l) h (At i) → a ≡ gone i → a .number ≡ 0 → Updated l (withoutAt (view l) i) l′
     → store′ ≡ closedUp 0 store (startOf (view l) i) (bytesOf (objectAt (view l) i)) (used (view l))
-    → (panel : List ℕ) → Followed (goes stock gone none (view l) h) l (memories panel store) a l′ (memories panel store′)
+    → (panel : List ℕ) → Followed (deletionOf stock gone none (view l) h) l (memories panel store) a l′ (memories panel store′)
 unfolding after paintedBy
 gone-followed stock gone none l h e a z s closed panel = acceptance z (rw (e, a)) s (rw (e, closed))

@@ -17,16 +17,16 @@ use numbers::SLOTS;
 use plan::Answer;
 
 // A created object goes. Stock objects stay, and count as deleted.
-pub fn delete(l: &mut [u32], store: &mut [u8], handle: u32) -> Answer
-    requires { ⌜ Lent (now l) (view (now l) .«panel_len») (length (now store)) ⌝ }
-    ensures { λ r. ⌜ ((panel : List ℕ) → Followed (delete (view (now (l .entry))) handle) (now (l .entry)) (memories panel (now (store .entry))) (partsOf r) (now (l .exit)) (memories panel (now (store .exit)))) ⌝ }
+pub fn delete(numbers: &mut [u32], store: &mut [u8], handle: u32) -> Answer
+    requires { ⌜ Lent (now numbers) (view (now numbers) .«panel_len») (length (now store)) ⌝ }
+    ensures { λ r. ⌜ ((panel : List ℕ) → Followed (delete (view (now (numbers .entry))) handle) (now (numbers .entry)) (memories panel (now (store .entry))) (partsOf r) (now (numbers .exit)) (memories panel (now (store .exit)))) ⌝ }
 {
     if gdi::is_stock_handle(handle) {
         return Answer::Deleted(true);
     }
-    match lookup::find(l, handle) {
+    match lookup::find(numbers, handle) {
         Found::At(i) => {
-            removal::take_out(l, store, i);
+            removal::take_out(numbers, store, i);
             Answer::Deleted(true)
         }
         Found::Nothing => Answer::Deleted(false),
@@ -34,20 +34,20 @@ pub fn delete(l: &mut [u32], store: &mut [u8], handle: u32) -> Answer
 }
 
 // A created object goes, and its record is the answer.
-pub fn remove(l: &mut [u32], store: &mut [u8], handle: u32) -> Answer
-    requires { ⌜ Lent (now l) (view (now l) .«panel_len») (length (now store)) ⌝ }
-    ensures { λ r. ⌜ ((panel : List ℕ) → Followed (remove (view (now (l .entry))) handle) (now (l .entry)) (memories panel (now (store .entry))) (partsOf r) (now (l .exit)) (memories panel (now (store .exit)))) ⌝ }
+pub fn remove(numbers: &mut [u32], store: &mut [u8], handle: u32) -> Answer
+    requires { ⌜ Lent (now numbers) (view (now numbers) .«panel_len») (length (now store)) ⌝ }
+    ensures { λ r. ⌜ ((panel : List ℕ) → Followed (remove (view (now (numbers .entry))) handle) (now (numbers .entry)) (memories panel (now (store .entry))) (partsOf r) (now (numbers .exit)) (memories panel (now (store .exit)))) ⌝ }
 {
     if gdi::is_stock_handle(handle) {
         return Answer::NotRemoved;
     }
-    match lookup::find(l, handle) {
+    match lookup::find(numbers, handle) {
         Found::At(i) => {
             let p = SLOTS + SLOT * i;
             let first = p + OBJECT;
             let end = p + SLOT;
-            let o = numbers::object_of(l[p + KIND], &l[first..end]);
-            removal::take_out(l, store, i);
+            let o = numbers::object_of(numbers[p + KIND], &numbers[first..end]);
+            removal::take_out(numbers, store, i);
             Answer::Removed(o)
         }
         Found::Nothing => Answer::NotRemoved,

@@ -14,32 +14,32 @@ use Rattle.gdi.specs.Lookup.{slotAt, handleAt, objectAt}
 use Rattle.gdi.specs.Updates.{withStockDirty, withObjects}
 use Rattle.numbers.specs.Layout.{dcSize, objectSize, slotSize, framesLowPlace, framesHighPlace, stockDirtyPlace, countPlace, screenPlace, slotPlace, handlePlace, kindPlace, objectPlace, bitmapDirtyIn}
 use Rattle.numbers.specs.Block.{bitmapFields, at, isDc, isObject, slotOf, ObjectCoded}
-use Rattle.numbers.specs.View.{view, isRecord, Stored}
+use Rattle.numbers.specs.View.{view, isRecord, Updated}
 use Rattle.numbers.proofs.Block.{SlotCoded}
 use Rattle.numbers.proofs.Record.{parts}
 use Rattle.numbers.proofs.Seen.{bitmapDirtyPlace, handle-seen, object-seen, object-bitmap, object-part, part-at, by-kind}
 use Rattle.numbers.proofs.View.{slot-seen}
 use Rattle.place.specs.declared.SurfaceId.{SurfaceId}
-use Rattle.dirty.specs.Dirty.{objectDirtied, slotDirtied, framed, dirtied, dirtiedIf}
+use Rattle.dirty.specs.Dirty.{objectDirtied, slotDirtied, nextFrame, dirtied, dirtiedIf}
 use Rattle.numbers.proofs.Updates.{frames-seen, stock-seen as stock-same, bitmap-marked}
-use Rattle.numbers.proofs.Kept.{stored-same, Kept, kept-all, kept-set, part-kept, table-kept, front-record, front-rest, slot-stored}
-use Rattle.lookup.proofs.Stores.{slot-from}
+use Rattle.numbers.proofs.Kept.{updated-same, Kept, kept-all, kept-set, part-kept, table-kept, front-record, front-rest, slot-updated}
+use Rattle.lookup.proofs.Updates.{slot-from}
 
 -- a record that is the same as another
-pub stored-as : {l l′ : List ℕ} {b b′ : GdiState} → b ≡ b′ → Stored l b l′ → Stored l b′ l′
-stored-as {l} {l′} e s = subst (λ (b : GdiState). Stored l b l′) e s
+pub updated-as : {l l′ : List ℕ} {b b′ : GdiState} → b ≡ b′ → Updated l b l′ → Updated l b′ l′
+updated-as {l} {l′} e s = subst (λ (b : GdiState). Updated l b l′) e s
 
 -- a mark that is due, and one that is not
-pub due-stored : {l l′ : List ℕ} (b : GdiState) (s : SurfaceId) {due : Bool} → due ≡ true → Stored l (dirtied b s) l′ → Stored l (dirtiedIf due s b) l′
+pub due-updated : {l l′ : List ℕ} (b : GdiState) (s : SurfaceId) {due : Bool} → due ≡ true → Updated l (dirtied b s) l′ → Updated l (dirtiedIf due s b) l′
 unfolding dirtiedIf
-due-stored b s e h = rw e h
+due-updated b s e h = rw e h
 
-pub undue-stored : (l : List ℕ) (s : SurfaceId) {due : Bool} → isRecord l ≡ true → due ≡ false → Stored l (dirtiedIf due s (view l)) l
+pub undue-updated : (l : List ℕ) (s : SurfaceId) {due : Bool} → isRecord l ≡ true → due ≡ false → Updated l (dirtiedIf due s (view l)) l
 unfolding dirtiedIf
-undue-stored l s r e = rw e (stored-same r)
+undue-updated l s r e = rw e (updated-same r)
 
 module _ (l l′ : List ℕ) (r : isRecord l ≡ true) where
-  -- a number of the bench, apart from the count
+  -- a number of the device, apart from the count
   module _ {p n : ℕ} (kept : Kept l p n l′) (front : p + n ≤ countPlace) where
     pub screen : part l′ screenPlace dcSize ≡ part l screenPlace dcSize
     screen = part-kept kept screenPlace dcSize (λ j a b c d. omega arith)
@@ -47,8 +47,8 @@ module _ (l l′ : List ℕ) (r : isRecord l ≡ true) where
     behind : (k : ℕ) → p + n ≤ k → at l′ k ≡ at l k
     behind k h = kept .same k (λ a b. omega arith)
 
-    pub head-stored : {b : GdiState} → view l′ ≡ b → b .count ≡ at l countPlace → at l′ stockDirtyPlace ≤ 1 → Stored l b l′
-    head-stored seen count flag =
+    pub head-updated : {b : GdiState} → view l′ ≡ b → b .count ≡ at l countPlace → at l′ stockDirtyPlace ≤ 1 → Updated l b l′
+    head-updated seen count flag =
         record {
           is-record = front-record l l′ r kept (omega arith) (behind countPlace front) flag (ap isDc screen ∙ parts l r .screen);
           same = seen;
@@ -60,15 +60,15 @@ module _ (l l′ : List ℕ) (r : isRecord l ≡ true) where
     other : (k : ℕ) → (framesLowPlace ≤ k → k < framesLowPlace + 2 → ⊥) → at l′ k ≡ at l k
     other k h = kept .same k h
 
-    counter-seen : view l′ ≡ framed (view l)
+    counter-seen : view l′ ≡ nextFrame (view l)
     unfolding view
     counter-seen =
         frames-seen l l′ (screen kept (omega arith)) (table-kept l l′ r kept (omega arith) (other countPlace (λ a b. omega arith)))
         (λ k h a b. other k (λ x y. omega arith)) more
 
-    pub counter-stored : Stored l (framed (view l)) l′
+    pub counter-updated : Updated l (nextFrame (view l)) l′
     unfolding view
-    counter-stored = head-stored kept (omega arith) counter-seen refl (omega (arith, other stockDirtyPlace (λ a b. omega arith), parts l r .flag))
+    counter-updated = head-updated kept (omega arith) counter-seen refl (omega (arith, other stockDirtyPlace (λ a b. omega arith), parts l r .flag))
 
   -- the stock bitmap's mark
   module _ (kept : Kept l stockDirtyPlace 1 l′) (mark : at l′ stockDirtyPlace ≡ 1) where
@@ -80,9 +80,9 @@ module _ (l l′ : List ℕ) (r : isRecord l ≡ true) where
         stock-same l l′ (screen kept (omega arith)) (table-kept l l′ r kept (omega arith) (beside countPlace (λ a b. omega arith)))
         (λ k h a b. beside k (λ x y. omega arith)) mark
 
-    pub stock-stored : Stored l (withStockDirty (view l)) l′
+    pub stock-updated : Updated l (withStockDirty (view l)) l′
     unfolding view
-    stock-stored = head-stored kept (omega arith) stock-seen refl (omega arith)
+    stock-updated = head-updated kept (omega arith) stock-seen refl (omega arith)
 
 module _ (l : List ℕ) (r : isRecord l ≡ true) (i : ℕ) (lt : i < at l countPlace) where
   abbrev slotMarked : GdiState
@@ -92,8 +92,8 @@ module _ (l : List ℕ) (r : isRecord l ≡ true) (i : ℕ) (lt : i < at l count
   room = omega (arith, lt, parts l r .few, parts l r .long)
 
   -- a slot that is no bitmap's
-  pub other-kept : (at l (slotPlace i + kindPlace) ≡ 1 → ⊥) → Stored l slotMarked l
-  other-kept ne = slot-stored l l r i lt (kept-all l (slotPlace i) slotSize) (record { is-slot = parts l r .slots i lt; same = same ∙ ap slotDirtied (sym seen) })
+  pub other-kept : (at l (slotPlace i + kindPlace) ≡ 1 → ⊥) → Updated l slotMarked l
+  other-kept ne = slot-updated l l r i lt (kept-all l (slotPlace i) slotSize) (record { is-slot = parts l r .slots i lt; same = same ∙ ap slotDirtied (sym seen) })
     where
       slot : List ℕ
       slot = part l (slotPlace i) slotSize
@@ -110,8 +110,8 @@ module _ (l : List ℕ) (r : isRecord l ≡ true) (i : ℕ) (lt : i < at l count
           (by-kind (at slot kindPlace) (part slot objectPlace objectSize) (λ o. o ≡ objectDirtied o) (λ e. refl) (λ e. absurd (kind e)) (λ x. refl) (λ x. refl) (λ x. refl))
 
   -- a bitmap's slot that took the mark
-  bitmap-stored : at l (slotPlace i + kindPlace) ≡ 1 → (l′ : List ℕ) → Kept l (slotPlace i + bitmapDirtyPlace) 1 l′ → at l′ (slotPlace i + bitmapDirtyPlace) ≡ 1 → Stored l slotMarked l′
-  bitmap-stored one l′ kept mark = slot-stored l l′ r i lt (record { long = kept .long; same = λ k out. kept .same k (λ a b. out (omega arith) (omega arith)) }) put
+  bitmap-updated : at l (slotPlace i + kindPlace) ≡ 1 → (l′ : List ℕ) → Kept l (slotPlace i + bitmapDirtyPlace) 1 l′ → at l′ (slotPlace i + bitmapDirtyPlace) ≡ 1 → Updated l slotMarked l′
+  bitmap-updated one l′ kept mark = slot-updated l l′ r i lt (record { long = kept .long; same = λ k out. kept .same k (λ a b. out (omega arith) (omega arith)) }) put
     where
       same : (k : ℕ) → (k ≡ bitmapDirtyPlace → ⊥) → at l′ (slotPlace i + k) ≡ at l (slotPlace i + k)
       same k ne = kept .same (slotPlace i + k) (λ a b. ne (omega arith))
@@ -147,18 +147,18 @@ module _ (l : List ℕ) (r : isRecord l ≡ true) (i : ℕ) (lt : i < at l count
           (part-at l′ (slotPlace i) slotSize kindPlace (omega arith) ∙ same kindPlace (λ e. omega arith) ∙ one)
           (object-part l′ (slotPlace i)) coded
 
-  pub bitmap-set : at l (slotPlace i + kindPlace) ≡ 1 → Stored l slotMarked (set l (slotPlace i + bitmapDirtyPlace) 1)
+  pub bitmap-set : at l (slotPlace i + kindPlace) ≡ 1 → Updated l slotMarked (set l (slotPlace i + bitmapDirtyPlace) 1)
   bitmap-set one =
-      bitmap-stored one (set l (slotPlace i + bitmapDirtyPlace) 1) (kept-set (slotPlace i + bitmapDirtyPlace) 1 (kept-all l (slotPlace i + bitmapDirtyPlace) 1) (omega arith) (omega arith))
+      bitmap-updated one (set l (slotPlace i + bitmapDirtyPlace) 1) (kept-set (slotPlace i + bitmapDirtyPlace) 1 (kept-all l (slotPlace i + bitmapDirtyPlace) 1) (omega arith) (omega arith))
       (getD-set-same l (slotPlace i + bitmapDirtyPlace) 1 0 (omega (arith, room)))
 
 -- as the code stores them
 module _ (l : List ℕ) (r : isRecord l ≡ true) where
-  pub stock-set : Stored l (withStockDirty (view l)) (set l stockDirtyPlace 1)
-  stock-set = stock-stored l (set l stockDirtyPlace 1) r (kept-set stockDirtyPlace 1 (kept-all l stockDirtyPlace 1) (omega arith) (omega arith)) (getD-set-same l stockDirtyPlace 1 0 (omega (arith, parts l r .long)))
+  pub stock-set : Updated l (withStockDirty (view l)) (set l stockDirtyPlace 1)
+  stock-set = stock-updated l (set l stockDirtyPlace 1) r (kept-set stockDirtyPlace 1 (kept-all l stockDirtyPlace 1) (omega arith) (omega arith)) (getD-set-same l stockDirtyPlace 1 0 (omega (arith, parts l r .long)))
 
-  pub counter-set : (n : ℕ) → n ≡ (at l framesLowPlace + 4294967296 * at l framesHighPlace + 1) % 18446744073709551616 → Stored l (framed (view l)) (set (set l framesLowPlace (n % 4294967296)) framesHighPlace (n / 4294967296))
-  counter-set n e = counter-stored l whole r (kept-set framesHighPlace high (kept-set framesLowPlace low (kept-all l framesLowPlace 2) (omega arith) (omega arith)) (omega arith) (omega arith)) (rw (first, second) (omega arith))
+  pub counter-set : (n : ℕ) → n ≡ (at l framesLowPlace + 4294967296 * at l framesHighPlace + 1) % 18446744073709551616 → Updated l (nextFrame (view l)) (set (set l framesLowPlace (n % 4294967296)) framesHighPlace (n / 4294967296))
+  counter-set n e = counter-updated l whole r (kept-set framesHighPlace high (kept-set framesLowPlace low (kept-all l framesLowPlace 2) (omega arith) (omega arith)) (omega arith) (omega arith)) (rw (first, second) (omega arith))
     where
       low : ℕ
       low = n % 4294967296

@@ -27,8 +27,8 @@ abbrev pub slotDirtied : Slot → Slot
 slotDirtied s = record { handle = s .handle; object = objectDirtied (s .object) }
 
 -- one frame more: the counter goes round to 0 after its last value
-abbrev pub framed : GdiState → GdiState
-framed b = withFrames b ((b .«frame_counter» + 1) % 18446744073709551616)
+abbrev pub nextFrame : GdiState → GdiState
+nextFrame b = withFrames b ((b .«frame_counter» + 1) % 18446744073709551616)
 
 -- a created object with its mark
 abbrev pub createdDirtied : GdiState → Found → GdiState
@@ -37,7 +37,7 @@ createdDirtied b Nothing = b
 
 -- a dirty mark adds 1 to the panel's frame counter (64 bits), or sets a bitmap's host_dirty
 unfoldable pub dirtied : GdiState → SurfaceId → GdiState
-dirtied b Panel = framed b
+dirtied b Panel = nextFrame b
 dirtied b (Bitmap h) = cond (eqb h stockBitmap) (withStockDirty b) (createdDirtied b (findOf b h))
 
 -- the same if a mark is due

@@ -7,9 +7,9 @@ ghost use Rattle.gdi.specs.Lookup.{slotAt};
 ghost use Rattle.gdi.specs.Updates.{withObjects};
 ghost use Rattle.numbers.specs.Layout.{countPlace};
 ghost use Rattle.numbers.specs.Block.{at};
-ghost use Rattle.numbers.specs.View.{view, isRecord, Stored};
+ghost use Rattle.numbers.specs.View.{view, isRecord, Updated};
 ghost use Rattle.place.specs.Place.{slotFor};
-ghost use Rattle.dirty.specs.Dirty.{slotDirtied, framed, dirtied, dirtiedIf};
+ghost use Rattle.dirty.specs.Dirty.{slotDirtied, nextFrame, dirtied, dirtiedIf};
 use gdi::Found;
 use gdi::STOCK_DEFAULT_BITMAP;
 use numbers::BITMAP_DIRTY;
@@ -22,23 +22,23 @@ use numbers::STOCK_DIRTY;
 use place::SurfaceId;
 
 // Marks a surface dirty, whose record stands in this slot.
-pub fn mark_dirty(l: &mut [u32], id: SurfaceId, slot: Found)
-    requires { ⌜ isRecord (now l) ≡ true ⌝ }
-    requires { ⌜ slot ≡ slotFor (view (now l)) id ⌝ }
-    ensures { λ _. ⌜ Stored (now (l .entry)) (dirtied (view (now (l .entry))) id) (now (l .exit)) ⌝ }
+pub fn mark_dirty(numbers: &mut [u32], id: SurfaceId, slot: Found)
+    requires { ⌜ isRecord (now numbers) ≡ true ⌝ }
+    requires { ⌜ slot ≡ slotFor (view (now numbers)) id ⌝ }
+    ensures { λ _. ⌜ Updated (now (numbers .entry)) (dirtied (view (now (numbers .entry))) id) (now (numbers .exit)) ⌝ }
 {
     match id {
         SurfaceId::Panel => {
-            count_frame(l);
+            count_frame(numbers);
         }
         SurfaceId::Bitmap(h) => {
             if h == STOCK_DEFAULT_BITMAP {
-                l[STOCK_DIRTY] = 1;
+                numbers[STOCK_DIRTY] = 1;
                 return;
             }
             match slot {
                 Found::At(i) => {
-                    mark_slot(l, i);
+                    mark_slot(numbers, i);
                 }
                 Found::Nothing => {}
             }
@@ -47,37 +47,37 @@ pub fn mark_dirty(l: &mut [u32], id: SurfaceId, slot: Found)
 }
 
 // The same if a mark is due.
-pub fn mark_dirty_if(l: &mut [u32], id: SurfaceId, slot: Found, due: bool)
-    requires { ⌜ isRecord (now l) ≡ true ⌝ }
-    requires { ⌜ slot ≡ slotFor (view (now l)) id ⌝ }
-    ensures { λ _. ⌜ Stored (now (l .entry)) (dirtiedIf due id (view (now (l .entry)))) (now (l .exit)) ⌝ }
+pub fn mark_dirty_if(numbers: &mut [u32], id: SurfaceId, slot: Found, due: bool)
+    requires { ⌜ isRecord (now numbers) ≡ true ⌝ }
+    requires { ⌜ slot ≡ slotFor (view (now numbers)) id ⌝ }
+    ensures { λ _. ⌜ Updated (now (numbers .entry)) (dirtiedIf due id (view (now (numbers .entry)))) (now (numbers .exit)) ⌝ }
 {
     if due {
-        mark_dirty(l, id, slot);
+        mark_dirty(numbers, id, slot);
         return;
     }
 }
 
 // One frame more.
-fn count_frame(l: &mut [u32])
-    requires { ⌜ isRecord (now l) ≡ true ⌝ }
-    ensures { λ _. ⌜ Stored (now (l .entry)) (framed (view (now (l .entry)))) (now (l .exit)) ⌝ }
+fn count_frame(numbers: &mut [u32])
+    requires { ⌜ isRecord (now numbers) ≡ true ⌝ }
+    ensures { λ _. ⌜ Updated (now (numbers .entry)) (nextFrame (view (now (numbers .entry)))) (now (numbers .exit)) ⌝ }
 {
-    let frames = (l[FRAMES_LOW] as u64) + 0x1_0000_0000 * (l[FRAMES_HIGH] as u64);
+    let frames = (numbers[FRAMES_LOW] as u64) + 0x1_0000_0000 * (numbers[FRAMES_HIGH] as u64);
     let next = std::num::wrapping_add_u64(frames, 1);
-    l[FRAMES_LOW] = (next % 0x1_0000_0000) as u32;
-    l[FRAMES_HIGH] = (next / 0x1_0000_0000) as u32;
+    numbers[FRAMES_LOW] = (next % 0x1_0000_0000) as u32;
+    numbers[FRAMES_HIGH] = (next / 0x1_0000_0000) as u32;
 }
 
 // Marks the bitmap in slot i; any other object stays as it is.
-fn mark_slot(l: &mut [u32], i: usize)
-    requires { ⌜ isRecord (now l) ≡ true ⌝ }
-    requires { ⌜ i < at (now l) countPlace ⌝ }
-    ensures { λ _. ⌜ Stored (now (l .entry)) (withObjects (view (now (l .entry))) (view (now (l .entry)) .«next_handle») (view (now (l .entry)) .count) (set (view (now (l .entry)) .objects) i (slotDirtied (slotAt (view (now (l .entry))) i)))) (now (l .exit)) ⌝ }
+fn mark_slot(numbers: &mut [u32], i: usize)
+    requires { ⌜ isRecord (now numbers) ≡ true ⌝ }
+    requires { ⌜ i < at (now numbers) countPlace ⌝ }
+    ensures { λ _. ⌜ Updated (now (numbers .entry)) (withObjects (view (now (numbers .entry))) (view (now (numbers .entry)) .«next_handle») (view (now (numbers .entry)) .count) (set (view (now (numbers .entry)) .objects) i (slotDirtied (slotAt (view (now (numbers .entry))) i)))) (now (numbers .exit)) ⌝ }
 {
     let p = SLOTS + SLOT * i;
-    if l[p + KIND] == 1 {
-        l[p + BITMAP_DIRTY] = 1;
+    if numbers[p + KIND] == 1 {
+        numbers[p + BITMAP_DIRTY] = 1;
         return;
     }
 }

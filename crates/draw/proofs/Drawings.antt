@@ -9,7 +9,7 @@ use Rattle.rop3.specs.Rop3.{tableOf}
 use Rattle.text.specs.Ink.{unitCount}
 use Rattle.gdi.specs.declared.GdiState.{GdiState}
 use Rattle.gdi.specs.declared.Dc.{Dc}
-use Rattle.numbers.specs.View.{view, Stored}
+use Rattle.numbers.specs.View.{view, Updated}
 use Rattle.ready.proofs.Ready.{Ready}
 use Rattle.place.specs.declared.Place.{Place}
 use Rattle.place.specs.declared.Site.{Site}
@@ -17,7 +17,7 @@ use Rattle.place.specs.declared.SurfaceId.{SurfaceId}
 use Rattle.place.specs.declared.Target.{Target}
 use Rattle.place.specs.declared.Target.the-variants.{On}
 use Rattle.place.specs.Place.{targetOf, Within}
-use Rattle.place.specs.Inner.{Placed}
+use Rattle.place.specs.Inner.{SiteFound}
 use Rattle.place.proofs.Same.{Still}
 use Rattle.dirty.specs.Dirty.{dirtiedIf}
 use Rattle.paint.specs.Memories.{Memories, widthOf, over}
@@ -59,16 +59,16 @@ module _ (b : GdiState) (us : List ℕ) (dc : ℕ) (at : Point) {t : Target} (e 
   few-enough l = on (text-on b us dc at) e f ∙ rw (← k, le-leb n 65535 l)
 
 -- a site in a record that is lent with its memories
-pub within-lent : {b : GdiState} {n k : ℕ} {s : SurfaceId} {i : Site} → Ready b n k → Placed b s i → Within n k (i .at)
+pub within-lent : {b : GdiState} {n k : ℕ} {s : SurfaceId} {i : Site} → Ready b n k → SiteFound b s i → Within n k (i .at)
 within-lent q w = rw (q .panel, q .store) (w .within)
 
 -- a mark and bytes at the site that was found are the stroke's
-pub stroke-made : {l l′ : List ℕ} {s : SurfaceId} {i : Site} → Placed (view l) s i → (g : Drawing) (us : List ℕ) (c : ℕ) {due : Bool} {ms ms′ : Memories}
-    → due ≡ marksAt (i .at) (marksOf g) → Stored l (dirtiedIf due s (view l)) l′ → ms′ ≡ over (i .at) (drawnOf g us c (widthOf (i .at))) ms → StrokedOn l (strokeOf (view l) s g us c ∷ []) ms l′ ms′
+pub stroke-made : {l l′ : List ℕ} {s : SurfaceId} {i : Site} → SiteFound (view l) s i → (g : Drawing) (us : List ℕ) (c : ℕ) {due : Bool} {ms ms′ : Memories}
+    → due ≡ marksAt (i .at) (marksOf g) → Updated l (dirtiedIf due s (view l)) l′ → ms′ ≡ over (i .at) (drawnOf g us c (widthOf (i .at))) ms → StrokedOn l (strokeOf (view l) s g us c ∷ []) ms l′ ms′
 unfolding after paintedBy dirtiedBy paintsOf
 stroke-made {l} {l′} {s} w g us c {ms = ms} m q z =
     record {
-      numbers = subst (λ (t : Bool). Stored l (dirtiedIf t s (view l)) l′) (m ∙ ap (λ (i : Site). marksAt (i .at) (marksOf g)) (w .same)) q;
+      numbers = subst (λ (t : Bool). Updated l (dirtiedIf t s (view l)) l′) (m ∙ ap (λ (i : Site). marksAt (i .at) (marksOf g)) (w .same)) q;
       memories = z ∙ ap (λ (i : Site). over (i .at) (drawnOf g us c (widthOf (i .at))) ms) (w .same);
     }
 

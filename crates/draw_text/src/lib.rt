@@ -15,17 +15,17 @@ use plan::Point;
 
 // The units before unit 0 or the end, in the text colour. The answer is their advance.
 pub fn text_out(
-    l: &mut [u32],
+    numbers: &mut [u32],
     panel: &mut [u8],
     store: &mut [u8],
     units: &[u16],
     dc: u32,
     at: Point,
 ) -> Answer
-    requires { ⌜ Lent (now l) (length (now panel)) (length (now store)) ⌝ }
-    ensures { λ r. ⌜ Followed (text (view (now (l .entry))) (now (units .entry)) dc at) (now (l .entry)) (memories (now (panel .entry)) (now (store .entry))) (partsOf r) (now (l .exit)) (memories (now (panel .exit)) (now (store .exit))) ⌝ }
+    requires { ⌜ Lent (now numbers) (length (now panel)) (length (now store)) ⌝ }
+    ensures { λ r. ⌜ Followed (text (view (now (numbers .entry))) (now (units .entry)) dc at) (now (numbers .entry)) (memories (now (panel .entry)) (now (store .entry))) (partsOf r) (now (numbers .exit)) (memories (now (panel .exit)) (now (store .exit))) ⌝ }
 {
-    match place::target_of(l, dc) {
+    match place::target_of(numbers, dc) {
         Target::NoDc => Answer::Refused(NO_DC),
         Target::NoSurface => Answer::Refused(NO_SURFACE),
         Target::On(id, site, d) => {
@@ -35,7 +35,7 @@ pub fn text_out(
             }
             let ink = color::colorref_to_rgb565(d.text_color);
             draw::draw(
-                l,
+                numbers,
                 panel,
                 store,
                 id,

@@ -10,7 +10,7 @@ use lib.ListN.{length, take, drop, set, length-set}
 use lib.Seq.{drop-set-lt, getD-set-same, getD-set-other}
 use mir.Val.{SFits}
 use mir.Syntax.{w32}
-use Rattle.laws.proofs.Machine.{held32, stored32}
+use Rattle.arithmetic.proofs.Machine.{held32, stored32}
 use Rattle.words.specs.Parts.{part}
 use Rattle.words.proofs.Parts.{length-with, part-same}
 use Rattle.bigendian.specs.BigEndian.{signed32}
@@ -26,7 +26,7 @@ use Rattle.gdi.specs.declared.Font.{Font as FontRecord}
 use Rattle.gdi.specs.declared.GdiObject.{GdiObject}
 use Rattle.gdi.specs.declared.GdiObject.the-variants.{Bitmap as BitmapOf, Brush, Pen, Font}
 use Rattle.numbers.specs.Layout.{objectSize, slotSize, handlePlace, kindPlace, objectPlace}
-use Rattle.numbers.specs.Block.{at, flagOf, isFlag, bit, surfaceOf, bitmapOf, dcOf, isDc, objectOf, isObject, ObjectCoded}
+use Rattle.numbers.specs.Block.{at, flagOf, isFlag, flagNumber, surfaceOf, bitmapOf, dcFields, isDc, objectOf, isObject, ObjectCoded}
 use Rattle.numbers.proofs.Block.{surfaceNumber, presentNumber, bitmapNumber, DcCoded, SlotCoded, flag-back, flag-flag, dcNumbers, lentBack, lent-back}
 
 -- what was turned into numbers comes back
@@ -48,7 +48,7 @@ bitmap-flags (Chosen h) = refl
 
 -- the numbers of a DC
 pub dc-coded : (d : Dc) → DcCoded d (dcNumbers d)
-unfolding dcOf isDc
+unfolding dcFields isDc
 dc-coded d =
     record {
       is-dc = rw (surface-flag (d .surface), flag-flag (d .«bk_transparent»)) (bitmap-flags (d .«selected_bitmap»));
@@ -56,7 +56,7 @@ dc-coded d =
     }
 
 -- those of the other objects
-pub bitmap-coded : (m : Bitmap) → ObjectCoded (BitmapOf m) 1 (m .width ∷ m .height ∷ bit (m .«host_dirty») ∷ 0 ∷ 0 ∷ 0 ∷ 0 ∷ 0 ∷ 0 ∷ 0 ∷ 0 ∷ 0 ∷ [])
+pub bitmap-coded : (m : Bitmap) → ObjectCoded (BitmapOf m) 1 (m .width ∷ m .height ∷ flagNumber (m .«host_dirty») ∷ 0 ∷ 0 ∷ 0 ∷ 0 ∷ 0 ∷ 0 ∷ 0 ∷ 0 ∷ 0 ∷ [])
 unfolding objectOf isObject
 bitmap-coded m = record { is-object = rw (flag-flag (m .«host_dirty»)); same = rw (flag-back (m .«host_dirty»)) }
 

@@ -9,10 +9,10 @@ use lib.IntN.{ℤ, pos, natAbs, _+ℤ_, _-ℤ_}
 use mir.Val.{Fits, SFits}
 use mir.Syntax.{w32, w64}
 use borrow.Author.Tests.{ltb-true}
-use Rattle.laws.specs.Integer.{positive}
-use Rattle.laws.specs.Inner.{negative}
-use Rattle.laws.proofs.Integer.{sum, difference, lt-parts, eq-parts, tested-negative, tested-positive, not-negative, abs-positive}
-use Rattle.laws.proofs.Machine.{range32, fits64, held32, held64, stored32, stored64, cast-held}
+use Rattle.arithmetic.specs.Integer.{positive}
+use Rattle.arithmetic.specs.Inner.{negative}
+use Rattle.arithmetic.proofs.Integer.{sum, difference, lt-parts, eq-parts, tested-negative, tested-positive, not-negative, abs-positive}
+use Rattle.arithmetic.proofs.Machine.{range32, fits64, held32, held64, stored32, stored64, cast-held}
 use Rattle.bigendian.specs.BigEndian.{signed32}
 use Rattle.bigendian.proofs.Signed.{below-half, from-half}
 

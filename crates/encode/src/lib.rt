@@ -55,7 +55,7 @@ fn unsigned(z: i32) -> u32
 
 // Puts the numbers of an object.
 fn put(
-    l: &mut [u32],
+    numbers: &mut [u32],
     a: u32,
     b: u32,
     c: u32,
@@ -69,40 +69,40 @@ fn put(
     k: u32,
     m: u32,
 )
-    requires { ⌜ length (now l) ≡ objectSize ⌝ }
-    ensures { λ _. ⌜ now (l .exit) ≡ a ∷ b ∷ c ∷ d ∷ e ∷ f ∷ g ∷ h ∷ i ∷ j ∷ k ∷ m ∷ [] ⌝ }
+    requires { ⌜ length (now numbers) ≡ objectSize ⌝ }
+    ensures { λ _. ⌜ now (numbers .exit) ≡ a ∷ b ∷ c ∷ d ∷ e ∷ f ∷ g ∷ h ∷ i ∷ j ∷ k ∷ m ∷ [] ⌝ }
 {
-    l[0] = a;
-    l[1] = b;
-    l[2] = c;
-    l[3] = d;
-    l[4] = e;
-    l[5] = f;
-    l[6] = g;
-    l[7] = h;
-    l[8] = i;
-    l[9] = j;
-    l[10] = k;
-    l[11] = m;
+    numbers[0] = a;
+    numbers[1] = b;
+    numbers[2] = c;
+    numbers[3] = d;
+    numbers[4] = e;
+    numbers[5] = f;
+    numbers[6] = g;
+    numbers[7] = h;
+    numbers[8] = i;
+    numbers[9] = j;
+    numbers[10] = k;
+    numbers[11] = m;
 }
 
 // Puts three numbers, and zeros behind them.
-fn put_few(l: &mut [u32], a: u32, b: u32, c: u32)
-    requires { ⌜ length (now l) ≡ objectSize ⌝ }
-    ensures { λ _. ⌜ now (l .exit) ≡ a ∷ b ∷ c ∷ 0 ∷ 0 ∷ 0 ∷ 0 ∷ 0 ∷ 0 ∷ 0 ∷ 0 ∷ 0 ∷ [] ⌝ }
+fn put_few(numbers: &mut [u32], a: u32, b: u32, c: u32)
+    requires { ⌜ length (now numbers) ≡ objectSize ⌝ }
+    ensures { λ _. ⌜ now (numbers .exit) ≡ a ∷ b ∷ c ∷ 0 ∷ 0 ∷ 0 ∷ 0 ∷ 0 ∷ 0 ∷ 0 ∷ 0 ∷ 0 ∷ [] ⌝ }
 {
-    put(l, a, b, c, 0, 0, 0, 0, 0, 0, 0, 0, 0);
+    put(numbers, a, b, c, 0, 0, 0, 0, 0, 0, 0, 0, 0);
 }
 
 // Puts a DC.
-pub fn put_dc(l: &mut [u32], d: Dc)
-    requires { ⌜ length (now l) ≡ dcSize ⌝ }
-    ensures { λ _. ⌜ DcCoded d (now (l .exit)) ⌝ }
+pub fn put_dc(numbers: &mut [u32], d: Dc)
+    requires { ⌜ length (now numbers) ≡ dcSize ⌝ }
+    ensures { λ _. ⌜ DcCoded d (now (numbers .exit)) ⌝ }
 {
     let surface = d.surface;
     let bitmap = d.selected_bitmap;
     put(
-        l,
+        numbers,
         surface_number(surface),
         present_number(bitmap),
         bitmap_number(bitmap),
@@ -119,42 +119,42 @@ pub fn put_dc(l: &mut [u32], d: Dc)
 }
 
 // Puts an object. Its kind.
-pub fn put_object(l: &mut [u32], object: GdiObject) -> u32
-    requires { ⌜ length (now l) ≡ objectSize ⌝ }
-    ensures { λ r. ⌜ ObjectCoded object r (now (l .exit)) ⌝ }
+pub fn put_object(numbers: &mut [u32], object: GdiObject) -> u32
+    requires { ⌜ length (now numbers) ≡ objectSize ⌝ }
+    ensures { λ r. ⌜ ObjectCoded object r (now (numbers .exit)) ⌝ }
 {
     match object {
         GdiObject::Dc(d) => {
-            put_dc(l, d);
+            put_dc(numbers, d);
             0
         }
         GdiObject::Bitmap(m) => {
             let dirty = numbers::flag_number(m.host_dirty);
-            put_few(l, m.width, m.height, dirty);
+            put_few(numbers, m.width, m.height, dirty);
             1
         }
         GdiObject::Brush(x) => {
-            put_few(l, x.color.0, 0, 0);
+            put_few(numbers, x.color.0, 0, 0);
             2
         }
         GdiObject::Pen(x) => {
-            put_few(l, x.color.0, x.width, 0);
+            put_few(numbers, x.color.0, x.width, 0);
             3
         }
         GdiObject::Font(x) => {
-            put_few(l, unsigned(x.height), 0, 0);
+            put_few(numbers, unsigned(x.height), 0, 0);
             4
         }
     }
 }
 
 // Puts a slot.
-pub fn put_slot(l: &mut [u32], s: Slot)
-    requires { ⌜ length (now l) ≡ slotSize ⌝ }
-    ensures { λ _. ⌜ SlotCoded s (now (l .exit)) ⌝ }
+pub fn put_slot(numbers: &mut [u32], s: Slot)
+    requires { ⌜ length (now numbers) ≡ slotSize ⌝ }
+    ensures { λ _. ⌜ SlotCoded s (now (numbers .exit)) ⌝ }
 {
     let o = s.object;
-    let kind = put_object(&mut l[OBJECT..SLOT], o);
-    l[HANDLE] = s.handle;
-    l[KIND] = kind;
+    let kind = put_object(&mut numbers[OBJECT..SLOT], o);
+    numbers[HANDLE] = s.handle;
+    numbers[KIND] = kind;
 }

@@ -9,7 +9,7 @@ use lib.Dec.{eqb}
 use lib.ListN.{length}
 use borrow.Author.Tests.{ne-eqb}
 use Rattle.numbers.specs.View.{view, isRecord}
-use Rattle.canonical.proofs.Pinned.{stored-unique}
+use Rattle.canonical.proofs.Pinned.{updated-unique}
 use Rattle.ready.specs.Ready.{commonRefusal, commonRefusalOn}
 use Rattle.paint.specs.Memories.{Memories}
 use Rattle.plan.specs.declared.Call.{Call}
@@ -19,8 +19,8 @@ use Rattle.plan.specs.Calls.{act, plan, planOn}
 use Rattle.plan.specs.Followed.{Followed}
 use Rattle.execution.specs.Execution.{Invocation, planFor, answer, run}
 use Rattle.execution.proofs.Performed.{performed-step}
-use Rattle.host_call.specs.declared.CallRead.{CallRead}
-use Rattle.host_call.specs.declared.CallRead.the-variants.{NoCall, Is}
+use Rattle.host_call.specs.declared.ParsedCall.{ParsedCall}
+use Rattle.host_call.specs.declared.ParsedCall.the-variants.{NoCall, Is}
 use Rattle.host_call.specs.Call.{callOf}
 use Rattle.host_reply.specs.declared.Reply.{Reply}
 use Rattle.host_reply.specs.Reply.{Replied}
@@ -70,7 +70,7 @@ followed-numbers {p} {l} {k} {l′} {k′} {a = a} {b = b} e sl sk f g = by (ℕ
     same = ap (λ (x : Parts). x .number) (g .answer ∙ sym (f .answer))
 
     by : Dec (a .number ≡ 0) → l′ ≡ k′
-    by (yes z) = stored-unique k l′ k′ (p .outcome .state) (sl .below) (sk .below) (rw e at (f .numbers z)) (g .numbers (same ∙ z))
+    by (yes z) = updated-unique k l′ k′ (p .outcome .state) (sl .below) (sk .below) (rw e at (f .numbers z)) (g .numbers (same ∙ z))
     by (no ne) = f .kept ne .0 ∙ e ∙ sym (g .kept (λ z. ne (sym same ∙ z)) .0)
 
 -- ---- `perform`
@@ -141,7 +141,7 @@ perform-lawful =
 -- ---- the C entry: numbers that are no call are refused, others are performed
 
 -- what is promised of numbers that were read as q
-abbrev HostedAs : CallRead → (us : List ℕ) → FlatDevice → Reply → FlatDevice → Type 0
+abbrev HostedAs : ParsedCall → (us : List ℕ) → FlatDevice → Reply → FlatDevice → Type 0
 HostedAs q us s r t =
     Replied (planRead q us (s .numbers) (s .memories) .outcome .answer) r
     × Followed (planRead q us (s .numbers) (s .memories)) (s .numbers) (s .memories) (planRead q us (s .numbers) (s .memories) .outcome .answer) (t .numbers) (t .memories)
@@ -152,24 +152,24 @@ invocation c us = record { call = c; units = us }
 no-call-stays : (us : List ℕ) {s t : FlatDevice} {r : Reply} → HostedAs NoCall us s r t → t ≡ s
 no-call-stays us h = followed-refused (λ z. omega (arith, z)) (h .1)
 
-host-refuses : (q : CallRead) (us : List ℕ) (s t : FlatDevice) (r : Reply) → (refusesAllOn s ≡ 0 → ⊥) → Words32 (t .numbers) → HostedAs q us s r t → t ≡ s
+host-refuses : (q : ParsedCall) (us : List ℕ) (s t : FlatDevice) (r : Reply) → (refusesAllOn s ≡ 0 → ⊥) → Words32 (t .numbers) → HostedAs q us s r t → t ≡ s
 host-refuses NoCall us s t r ne w h = no-call-stays us h
 host-refuses (Is c) us s t r ne w h = perform-refuses (invocation c us) s t _ ne (record { performed = h .1; words = w })
 
-host-makes : (q : CallRead) (us : List ℕ) (s t : FlatDevice) (r : Reply) → isRecord (s .numbers) ≡ true → Words32 (t .numbers) → HostedAs q us s r t
+host-makes : (q : ParsedCall) (us : List ℕ) (s t : FlatDevice) (r : Reply) → isRecord (s .numbers) ≡ true → Words32 (t .numbers) → HostedAs q us s r t
     → deviceOf t ≡ run (callsRead q us) (deviceOf s) .1
 unfolding run
 host-makes NoCall us s t r e w h = ap deviceOf (no-call-stays us h)
 host-makes (Is c) us s t r e w h = perform-makes (invocation c us) s t _ e (record { performed = h .1; words = w })
 
 -- the answer that is replied
-host-parts : (q : CallRead) (us : List ℕ) (s t s′ t′ : FlatDevice) (r r′ : Reply) → SameRecord s t → Words32 (s′ .numbers) → Words32 (t′ .numbers) → HostedAs q us s r s′ → HostedAs q us t r′ t′
+host-parts : (q : ParsedCall) (us : List ℕ) (s t s′ t′ : FlatDevice) (r r′ : Reply) → SameRecord s t → Words32 (s′ .numbers) → Words32 (t′ .numbers) → HostedAs q us s r s′ → HostedAs q us t r′ t′
     → planRead q us (s .numbers) (s .memories) .outcome .answer ≡ planRead q us (t .numbers) (t .memories) .outcome .answer
 host-parts NoCall us s t s′ t′ r r′ same w w′ h j = refl
 host-parts (Is c) us s t s′ t′ r r′ same w w′ h j =
     perform-answers (invocation c us) s t s′ t′ _ _ same (record { performed = h .1; words = w }) (record { performed = j .1; words = w′ })
 
-host-numbers : (q : CallRead) (us : List ℕ) (s t s′ t′ : FlatDevice) (r r′ : Reply) → SameRecord s t → s .numbers ≡ t .numbers → Words32 (s′ .numbers) → Words32 (t′ .numbers)
+host-numbers : (q : ParsedCall) (us : List ℕ) (s t s′ t′ : FlatDevice) (r r′ : Reply) → SameRecord s t → s .numbers ≡ t .numbers → Words32 (s′ .numbers) → Words32 (t′ .numbers)
     → HostedAs q us s r s′ → HostedAs q us t r′ t′ → s′ .numbers ≡ t′ .numbers
 host-numbers NoCall us s t s′ t′ r r′ same n w w′ h j =
     ap (λ (z : FlatDevice). z .numbers) (no-call-stays us h) ∙ n ∙ sym (ap (λ (z : FlatDevice). z .numbers) (no-call-stays us j))

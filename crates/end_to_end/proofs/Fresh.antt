@@ -1,4 +1,4 @@
--- Two devices opened with the same sides on numbers and memories of equal lengths agree with no pixel marked, whatever was held.
+-- Two devices opened with the same sides on numbers and memories of equal lengths agree with no pixel tainted, whatever was held.
 -- Assumes nothing.
 use mathlib.Core.Bool.{Bool, true, false, cond, true≢false}
 use mathlib.Core.List.{List}
@@ -10,7 +10,7 @@ use native.Mathlib.Omega.{arith}
 use lib.Dec.{eqb}
 use lib.ListN.{length, replicate, length-replicate}
 use borrow.Author.Tests.{eqb-true, ne-eqb}
-use Rattle.laws.proofs.Test.{both}
+use Rattle.arithmetic.proofs.Test.{both}
 use Rattle.words.specs.Words.{word}
 use Rattle.words.specs.Parts.{part}
 use Rattle.words.proofs.Parts.{length-with, part-same}
@@ -22,15 +22,15 @@ use Rattle.numbers.proofs.Seen.{record-length}
 use Rattle.sound.specs.Sound.{isSound}
 use Rattle.memory.specs.Gap.{blanked}
 use Rattle.ready.specs.Ready.{commonRefusal}
-use Rattle.ready.proofs.Ready.{looks}
+use Rattle.ready.proofs.Ready.{ready-accepts}
 use Rattle.place.specs.declared.Place.the-variants.{Nowhere, At}
 use Rattle.place.specs.declared.Memory.the-variants.{Store}
 use Rattle.place.specs.declared.SurfaceId.{SurfaceId}
 use Rattle.place.specs.declared.SurfaceId.the-variants.{Panel, Bitmap}
 use Rattle.place.specs.Place.{locate, slotsFrom, whereIs}
 use Rattle.place.proofs.Apart.{clash}
-use Rattle.paint.specs.Memories.{Memories, memories, inside, colourAt}
-use Rattle.paint.specs.Marks.{Marks}
+use Rattle.paint.specs.Memories.{Memories, memories, hasPixel, colourAt}
+use Rattle.paint.specs.Taint.{Taint}
 use Rattle.plan.specs.Open.{openRefusal, openNumber, Opened}
 use Rattle.open.proofs.Opened.{Accepted, accepted, opened-sound}
 use Rattle.execution.specs.Execution.{Device, device, refusesAll}
@@ -40,8 +40,8 @@ use Rattle.end_to_end.specs.Screens.{EqualLengths}
 use Rattle.end_to_end.proofs.Lists.{Linked}
 use Rattle.end_to_end.proofs.Snapshots.{Settled}
 
--- no pixel is marked
-abbrev pub nothing : Marks
+-- no pixel is tainted
+abbrev pub nothing : Taint
 nothing u x y = ⊥
 
 -- a blanked range that fits keeps the length, and holds the same as another
@@ -60,14 +60,14 @@ left t w h ms =
 
 module _ (w h : ℕ) (ms ns : Memories) (pl : length (ms .panel) ≡ length (ns .panel)) (sl : length (ms .store) ≡ length (ns .store)) where
   -- every surface of a fresh record: the panel, and the stock bitmap's pixel
-  fresh-same : Accepted w h (length (ms .panel)) (length (ms .store)) → (n k : ℕ) (u : SurfaceId) (x y : ℕ) → inside (whereIs (fresh n k w h) u) x y ≡ true
+  fresh-same : Accepted w h (length (ms .panel)) (length (ms .store)) → (n k : ℕ) (u : SurfaceId) (x y : ℕ) → hasPixel (whereIs (fresh n k w h) u) x y ≡ true
       → colourAt (left true w h ms .memories) (whereIs (fresh n k w h) u) x y ≡ colourAt (left true w h ns .memories) (whereIs (fresh n k w h) u) x y
   unfolding locate slotsFrom
   fresh-same a n k Panel x y i =
       ap (λ (l : List ℕ). word l (x + y * w)) (blanked-same (ms .panel) (ns .panel) (size w h) (a .panel) (omega (arith, a .panel, pl)))
   fresh-same a n k (Bitmap g) x y i = by (eqb g stockBitmap) i
     where
-      by : (t : Bool) → inside (cond t (At Store 0 1 1) Nowhere) x y ≡ true
+      by : (t : Bool) → hasPixel (cond t (At Store 0 1 1) Nowhere) x y ≡ true
           → colourAt (left true w h ms .memories) (cond t (At Store 0 1 1) Nowhere) x y ≡ colourAt (left true w h ns .memories) (cond t (At Store 0 1 1) Nowhere) x y
       by true i = ap (λ (l : List ℕ). word l (x + y * 1)) (blanked-same (ms .store) (ns .store) 2 (a .store) (omega (arith, a .store, sl)))
       by false i = clash i
@@ -116,7 +116,7 @@ module _ {w h : ℕ} {s t : FlatDevice} {n : ℕ} (o : Opened w h (s .numbers) (
     where
       left-settled : (b : Bool) → (b ≡ true → Accepted w h (length (s .memories .panel)) (length (s .memories .store))) → (refusesAll (left b w h (s .memories)) ≡ 0) ⊎ (refusesAll (left b w h (s .memories)) ≡ 9)
       left-settled true a =
-          inl (rw (blanked-length (s .memories .panel) (size w h) (a refl .panel), blanked-length (s .memories .store) 2 (a refl .store)) (looks (record { sound = opened-sound (a refl); panel = refl; store = refl })))
+          inl (rw (blanked-length (s .memories .panel) (size w h) (a refl .panel), blanked-length (s .memories .store) 2 (a refl .store)) (ready-accepts (record { sound = opened-sound (a refl); panel = refl; store = refl })))
       left-settled false a = inr (unfold commonRefusal isSound in refl)
 
       by : Dec (length (s .numbers) ≡ recordSize) → Settled t

@@ -6,31 +6,31 @@ use Prim.Native.Nat.{ℕ}
 use lib.Dec.{eqb}
 use lib.ListN.{length}
 use borrow.Author.Tests.{eqb-true}
-use Rattle.laws.proofs.Test.{both}
+use Rattle.arithmetic.proofs.Test.{both}
 use Rattle.gdi.specs.declared.GdiState.{GdiState}
 use Rattle.numbers.specs.View.{view, isRecord}
 use Rattle.place.specs.declared.SurfaceId.{SurfaceId}
-use Rattle.paint.specs.Marks.{Marks}
+use Rattle.paint.specs.Taint.{Taint}
 use Rattle.execution.specs.Execution.{Device, refusesAll, run}
 use Rattle.execution.proofs.Steps.{run-append, run-kept}
-use Rattle.noninterference.specs.Claim.{Agree, marksAfter, marksOf}
+use Rattle.noninterference.specs.Claim.{Agree, taintAfter, taintOn}
 use Rattle.noninterference.proofs.Noninterference.{noninterference}
-use Rattle.noninterference.proofs.After.{marks-append}
+use Rattle.noninterference.proofs.After.{taint-append}
 use Rattle.end_to_end.specs.Lists.{FlatDevice, deviceOf, refusesAllOn, isPixelOn, colourOn, EqualBut, Entry, throughPerform, throughHost, Made, none, call, callsOf, ListsAgree}
 use Rattle.end_to_end.proofs.Entries.{SameRecord, no-record, record-of, no-record-refuses, served-record, Lawful, perform-lawful, host-lawful}
 
--- Memories of equal lengths; both are no record, or both are one, and the devices agree but for marked pixels.
-pub record Linked (m : Marks) (s t : FlatDevice) : Type 0 where
+-- Memories of equal lengths; both are no record, or both are one, and the devices agree but for tainted pixels.
+pub record Linked (m : Taint) (s t : FlatDevice) : Type 0 where
   pub panels : length (s .memories .panel) ≡ length (t .memories .panel)
   pub stores : length (s .memories .store) ≡ length (t .memories .store)
   pub records : isRecord (s .numbers) ≡ isRecord (t .numbers)
   pub agree : isRecord (s .numbers) ≡ true → Agree m (deviceOf s) (deviceOf t)
 
 -- where there is no record, marks have no effect
-lost : {m k : Marks} {s t : FlatDevice} → isRecord (s .numbers) ≡ false → Linked m s t → Linked k s t
+lost : {m k : Taint} {s t : FlatDevice} → isRecord (s .numbers) ≡ false → Linked m s t → Linked k s t
 lost e l = record { panels = l .panels; stores = l .stores; records = l .records; agree = λ z. absurd (true≢false (sym z ∙ e)) }
 
-same-record : {m : Marks} {s t : FlatDevice} → Linked m s t → SameRecord s t
+same-record : {m : Taint} {s t : FlatDevice} → Linked m s t → SameRecord s t
 same-record {m} {s} {t} l = by (isRecord (s .numbers)) refl
   where
     by : (b : Bool) → isRecord (s .numbers) ≡ b → SameRecord s t
@@ -38,7 +38,7 @@ same-record {m} {s} {t} l = by (isRecord (s .numbers)) refl
     by false e = no-record e (sym (l .records) ∙ e)
 
 -- what follows from the record and the lengths, and from nothing where there is no record, is the same of both
-pub linked-same : {A : Type 0} {m : Marks} {s t : FlatDevice} → Linked m s t → (f : Bool → GdiState → (panel-len store-len : ℕ) → A)
+pub linked-same : {A : Type 0} {m : Taint} {s t : FlatDevice} → Linked m s t → (f : Bool → GdiState → (panel-len store-len : ℕ) → A)
     → ((b b′ : GdiState) (n k n′ k′ : ℕ) → f false b n k ≡ f false b′ n′ k′)
     → f (isRecord (s .numbers)) (view (s .numbers)) (length (s .memories .panel)) (length (s .memories .store))
     ≡ f (isRecord (t .numbers)) (view (t .numbers)) (length (t .memories .panel)) (length (t .memories .store))
@@ -51,14 +51,14 @@ linked-same {A} {m} {s} {t} l f no-record-same = by (isRecord (s .numbers)) (isR
     by false true e same = absurd (true≢false (sym e))
     by false false e same = no-record-same _ _ _ _ _ _
 
--- pixels left unmarked have equal colours
-pub linked-pixels : {m : Marks} {s t : FlatDevice} → Linked m s t → (u : SurfaceId) (x y : ℕ) → isPixelOn s u x y ≡ true → (m u x y → ⊥) → colourOn s u x y ≡ colourOn t u x y
+-- pixels left untainted have equal colours
+pub linked-pixels : {m : Taint} {s t : FlatDevice} → Linked m s t → (u : SurfaceId) (x y : ℕ) → isPixelOn s u x y ≡ true → (m u x y → ⊥) → colourOn s u x y ≡ colourOn t u x y
 linked-pixels {s = s} l u x y i n =
     let e = served-record s (eqb-true (refusesAllOn s) 0 (both (eqb (refusesAllOn s) 0) _ i .0)) in
     l .agree e .pixels u x y (rw e at i) n
 
--- equal but for marked pixels is linked with equal numbers
-pub linked-of : {m : Marks} {s t : FlatDevice} → EqualBut m s t → Linked m s t
+-- equal but for tainted pixels is linked with equal numbers
+pub linked-of : {m : Taint} {s t : FlatDevice} → EqualBut m s t → Linked m s t
 linked-of {s = s} q =
     record {
       panels = q .panels;
@@ -67,7 +67,7 @@ linked-of {s = s} q =
       agree = λ e. record { states = ap view (q .numbers); panels = q .panels; stores = q .stores; pixels = λ u x y i n. q .pixels u x y (rw e i) n };
     }
 
-equal-of : {m : Marks} {s t : FlatDevice} → s .numbers ≡ t .numbers → Linked m s t → EqualBut m s t
+equal-of : {m : Taint} {s t : FlatDevice} → s .numbers ≡ t .numbers → Linked m s t → EqualBut m s t
 equal-of n l = record { numbers = n; panels = l .panels; stores = l .stores; pixels = linked-pixels l }
 
 module _ (e : Entry) (law : Lawful e) where
@@ -92,56 +92,56 @@ module _ (e : Entry) (law : Lawful e) where
       (g, q ∙ ap (λ (d : Device). run (callsOf e cs) d .1) (law .makes c s t a f x) ∙ sym (run-append (e .calls c) (callsOf e cs) (deviceOf s)))
 
   -- one call on two that are linked
-  step-linked : {m : Marks} {c : e .Argument} {s t s′ t′ : FlatDevice} {a b : e .Answer} → Linked m s t → e .Promises c s a s′ → e .Promises c t b t′
-      → Linked (marksOf (e .calls c) (deviceOf s) m) s′ t′
+  step-linked : {m : Taint} {c : e .Argument} {s t s′ t′ : FlatDevice} {a b : e .Answer} → Linked m s t → e .Promises c s a s′ → e .Promises c t b t′
+      → Linked (taintOn (e .calls c) (deviceOf s) m) s′ t′
   step-linked {m} {c} {s} {t} {s′} {t′} {a} {b} l x y = by (isRecord (s .numbers)) refl
     where
-      by : (z : Bool) → isRecord (s .numbers) ≡ z → Linked (marksOf (e .calls c) (deviceOf s) m) s′ t′
+      by : (z : Bool) → isRecord (s .numbers) ≡ z → Linked (taintOn (e .calls c) (deviceOf s) m) s′ t′
       by true f =
           let g : isRecord (t .numbers) ≡ true = sym (l .records) ∙ f in
-          let after : Agree (marksOf (e .calls c) (deviceOf s) m) (deviceOf s′) (deviceOf t′) =
-          subst₂ (λ (p q : Device). Agree (marksOf (e .calls c) (deviceOf s) m) p q) (sym (law .makes c s s′ a f x)) (sym (law .makes c t t′ b g y))
+          let after : Agree (taintOn (e .calls c) (deviceOf s) m) (deviceOf s′) (deviceOf t′) =
+          subst₂ (λ (p q : Device). Agree (taintOn (e .calls c) (deviceOf s) m) p q) (sym (law .makes c s s′ a f x)) (sym (law .makes c t t′ b g y))
           (noninterference .pixels (e .calls c) m (deviceOf s) (deviceOf t) (l .agree f))
           in
           record { panels = after .panels; stores = after .stores; records = law .stays-record c s s′ a f x ∙ sym (law .stays-record c t t′ b g y); agree = λ z. after }
       by false f =
           let g : isRecord (t .numbers) ≡ false = sym (l .records) ∙ f in
-          subst₂ (λ (p q : FlatDevice). Linked (marksOf (e .calls c) (deviceOf s) m) p q) (sym (stays f x)) (sym (stays g y)) (lost f l)
+          subst₂ (λ (p q : FlatDevice). Linked (taintOn (e .calls c) (deviceOf s) m) p q) (sym (stays f x)) (sym (stays g y)) (lost f l)
 
   -- the marks of a call and then of a list are those of the longer list, where they have an effect
-  marks-then : (m : Marks) {c : e .Argument} {cs : List (e .Argument)} {s s′ t t′ : FlatDevice} {a : e .Answer} {rs : List (e .Answer)} → e .Promises c s a s′ → Made e cs s′ rs t
-      → Linked (marksOf (callsOf e cs) (deviceOf s′) (marksOf (e .calls c) (deviceOf s) m)) t t′ → Linked (marksOf (callsOf e (c ∷ cs)) (deviceOf s) m) t t′
+  taint-then : (m : Taint) {c : e .Argument} {cs : List (e .Argument)} {s s′ t t′ : FlatDevice} {a : e .Answer} {rs : List (e .Answer)} → e .Promises c s a s′ → Made e cs s′ rs t
+      → Linked (taintOn (callsOf e cs) (deviceOf s′) (taintOn (e .calls c) (deviceOf s) m)) t t′ → Linked (taintOn (callsOf e (c ∷ cs)) (deviceOf s) m) t t′
   unfolding callsOf
-  marks-then m {c} {cs} {s} {s′} {t} {t′} {a} x xs l = by (isRecord (s .numbers)) refl
+  taint-then m {c} {cs} {s} {s′} {t} {t′} {a} x xs l = by (isRecord (s .numbers)) refl
     where
-      by : (z : Bool) → isRecord (s .numbers) ≡ z → Linked (marksOf (e .calls c ++ callsOf e cs) (deviceOf s) m) t t′
+      by : (z : Bool) → isRecord (s .numbers) ≡ z → Linked (taintOn (e .calls c ++ callsOf e cs) (deviceOf s) m) t t′
       by true f =
-          subst (λ (k : Marks). Linked k t t′)
-          (ap (λ (d : Device). marksOf (callsOf e cs) d (marksOf (e .calls c) (deviceOf s) m)) (law .makes c s s′ a f x) ∙ sym (marks-append (e .calls c) (callsOf e cs) (deviceOf s) m)) l
+          subst (λ (k : Taint). Linked k t t′)
+          (ap (λ (d : Device). taintOn (callsOf e cs) d (taintOn (e .calls c) (deviceOf s) m)) (law .makes c s s′ a f x) ∙ sym (taint-append (e .calls c) (callsOf e cs) (deviceOf s) m)) l
       by false f =
           let q = stays f x in
           let g : isRecord (s′ .numbers) ≡ false = ap (λ (z : FlatDevice). isRecord (z .numbers)) q ∙ f in
           lost (ap (λ (z : FlatDevice). isRecord (z .numbers)) (made-refused (no-record-refuses s′ g) xs) ∙ g) l
 
   -- a list on two that are linked
-  pub made-linked : {m : Marks} {cs : List (e .Argument)} {s t s′ t′ : FlatDevice} {rs qs : List (e .Answer)} → Linked m s t → Made e cs s rs s′ → Made e cs t qs t′
-      → (rs ≡ qs) × Linked (marksOf (callsOf e cs) (deviceOf s) m) s′ t′
-  unfolding callsOf marksAfter
+  pub made-linked : {m : Taint} {cs : List (e .Argument)} {s t s′ t′ : FlatDevice} {rs qs : List (e .Answer)} → Linked m s t → Made e cs s rs s′ → Made e cs t qs t′
+      → (rs ≡ qs) × Linked (taintOn (callsOf e cs) (deviceOf s) m) s′ t′
+  unfolding callsOf taintAfter
   made-linked l none none = (refl, l)
   made-linked {m = m} l (call {c = c} {s = s} {t = s′} {a = a} x xs) (call {s = t} {t = t′} {a = b} y ys) =
       let (q, k) = made-linked (step-linked l x y) xs ys in
-      (ap₂ _∷_ (law .answers c s t s′ t′ a b (same-record l) x y) q, marks-then m x xs k)
+      (ap₂ _∷_ (law .answers c s t s′ t′ a b (same-record l) x y) q, taint-then m x xs k)
 
   -- equal numbers stay equal
-  made-numbers : {m : Marks} {cs : List (e .Argument)} {s t s′ t′ : FlatDevice} {rs qs : List (e .Answer)} → Linked m s t → s .numbers ≡ t .numbers
+  made-numbers : {m : Taint} {cs : List (e .Argument)} {s t s′ t′ : FlatDevice} {rs qs : List (e .Answer)} → Linked m s t → s .numbers ≡ t .numbers
       → Made e cs s rs s′ → Made e cs t qs t′ → s′ .numbers ≡ t′ .numbers
   made-numbers l n none none = n
   made-numbers l n (call {c = c} {s = s} {t = s′} {a = a} x xs) (call {s = t} {t = t′} {a = b} y ys) =
       made-numbers (step-linked l x y) (law .numbers c s t s′ t′ a b (same-record l) n x y) xs ys
 
   -- a ready device is ready after every list
-  pub made-looks : {cs : List (e .Argument)} {s t : FlatDevice} {rs : List (e .Answer)} → refusesAllOn s ≡ 0 → Made e cs s rs t → refusesAllOn t ≡ 0
-  made-looks {cs} {s} z xs =
+  pub made-ready : {cs : List (e .Argument)} {s t : FlatDevice} {rs : List (e .Answer)} → refusesAllOn s ≡ 0 → Made e cs s rs t → refusesAllOn t ≡ 0
+  made-ready {cs} {s} z xs =
       let f = served-record s z in
       let (g, q) = made-makes f xs in
       rw g (ap refusesAll q ∙ run-kept (callsOf e cs) (deviceOf s) .looked (rw f at z))
@@ -153,7 +153,7 @@ module _ (e : Entry) (law : Lawful e) where
             let l = linked-of q in
             let (answers, k) = made-linked l xs ys in
             (answers, equal-of (made-numbers l (q .numbers) xs ys) k);
-        stays-ready = λ cs s s′ rs z xs. made-looks z xs;
+        stays-ready = λ cs s s′ rs z xs. made-ready z xs;
         refuses = λ cs s s′ rs ne xs. made-refused ne xs;
       }
 

@@ -7,21 +7,21 @@ use Prim.Native.Nat.{ℕ}
 use native.Mathlib.Omega.{arith}
 use Rattle.ready.specs.Ready.{commonRefusal}
 use Rattle.place.specs.declared.SurfaceId.the-variants.{Panel}
-use Rattle.paint.specs.Marks.{Marks}
-use Rattle.noninterference.proofs.After.{Unmarked, none-after}
+use Rattle.paint.specs.Taint.{Taint}
+use Rattle.noninterference.proofs.After.{Untainted, none-after}
 use Rattle.end_to_end.specs.Lists.{FlatDevice, refusesAllOn, Entry, throughPerform, throughHost, Made, none, call, callsOf}
 use Rattle.end_to_end.specs.Screens.{SameScreen, Session, EqualLengths, Between, SameSession, ScreensAgree}
 use Rattle.end_to_end.proofs.Entries.{served-record, Lawful, perform-lawful, host-lawful}
-use Rattle.end_to_end.proofs.Lists.{Linked, linked-same, linked-pixels, linked-of, made-linked, made-looks, made-refused}
+use Rattle.end_to_end.proofs.Lists.{Linked, linked-same, linked-pixels, linked-of, made-linked, made-ready, made-refused}
 use Rattle.end_to_end.proofs.Fresh.{nothing, opened-linked, opened-settled}
 use Rattle.end_to_end.proofs.Snapshots.{Settled, same-snapshots}
 
 -- what every call is refused with follows from the record and the lengths
-refusals-same : {m : Marks} {s t : FlatDevice} → Linked m s t → refusesAllOn s ≡ refusesAllOn t
+refusals-same : {m : Taint} {s t : FlatDevice} → Linked m s t → refusesAllOn s ≡ refusesAllOn t
 refusals-same l = linked-same l (λ r b n k. cond r (commonRefusal b n k) 9) (λ b b′ n k n′ k′. refl)
 
--- two that are linked with no pixel marked show the same
-same-screen : {m : Marks} {s t : FlatDevice} → Linked m s t → Unmarked m → Settled s → SameScreen s t
+-- two that are linked with no pixel tainted show the same
+same-screen : {m : Taint} {s t : FlatDevice} → Linked m s t → Untainted m → Settled s → SameScreen s t
 same-screen {s = s} l clear settled =
     record {
       refusals = refusals-same l;
@@ -39,7 +39,7 @@ split e (c ∷ cs) ds (call {a = a} x xs) =
 
 module _ (e : Entry) (law : Lawful e) where
   made-settled : {cs : List (e .Argument)} {s t : FlatDevice} {rs : List (e .Answer)} → Settled s → Made e cs s rs t → Settled t
-  made-settled (inl z) xs = inl (made-looks e law z xs)
+  made-settled (inl z) xs = inl (made-ready e law z xs)
   made-settled (inr z) xs = inr (ap refusesAllOn (made-refused e law (λ y. omega (arith, y, z)) xs) ∙ z)
 
   same-session : {w h : ℕ} {cs : List (e .Argument)} {s t s′ t′ : FlatDevice} {n k : ℕ} {rs qs : List (e .Answer)} → EqualLengths s t → Session e w h cs s n rs s′ → Session e w h cs t k qs t′
@@ -58,8 +58,8 @@ module _ (e : Entry) (law : Lawful e) where
       record {
         sessions = λ w h cs s t s′ t′ n k rs qs q x y. same-session q x y;
         points = λ cs ds s t rs xs. split e cs ds xs;
-        unmarked = λ f saves cs m s t s′ t′ rs qs q z xs ys clear.
-            same-snapshots (made-linked e law (linked-of q) xs ys .1) (inl (made-looks e law z xs)) clear saves;
+        untainted = λ f saves cs m s t s′ t′ rs qs q z xs ys clear.
+            same-snapshots (made-linked e law (linked-of q) xs ys .1) (inl (made-ready e law z xs)) clear saves;
       }
 
 pub perform-screens : ScreensAgree throughPerform

@@ -9,7 +9,7 @@ use native.Mathlib.Omega.{arith}
 use lib.Dec.{eqb}
 use lib.ListN.{length}
 use borrow.Author.Tests.{eq-eqb, lt-ltb}
-use Rattle.laws.proofs.Test.{together}
+use Rattle.arithmetic.proofs.Test.{together}
 use Rattle.words.specs.Words.{word}
 use Rattle.words.specs.Parts.{part}
 use Rattle.words.proofs.Parts.{word-part}
@@ -23,7 +23,7 @@ use Rattle.ready.proofs.Ready.{ready}
 use Rattle.place.specs.declared.SurfaceId.the-variants.{Panel}
 use Rattle.place.specs.Place.{whereIs}
 use Rattle.paint.specs.Memories.{colourAt}
-use Rattle.paint.specs.Marks.{Marks}
+use Rattle.paint.specs.Taint.{Taint}
 use Rattle.execution.specs.Execution.{refusesAll}
 use Rattle.p6.specs.P6.{p6}
 use Rattle.p6.specs.Joined.{joined}
@@ -60,12 +60,12 @@ module _ (w h i : ℕ) (some : 0 < w) (lt : i < w * h) where
       let e : i % w + i / w * w ≡ i = omega (arith, div-add-mod' i w) in
       rw e (word-part m 0 (w * h) i lt ∙ ap (word m) (omega arith))
 
-module _ {m : Marks} {s t : FlatDevice} (l : Linked m s t) where
+module _ {m : Taint} {s t : FlatDevice} (l : Linked m s t) where
   -- the records are the same
   views : isRecord (s .numbers) ≡ true → view (s .numbers) ≡ view (t .numbers)
   views e = l .agree e .states
 
-  -- the device is ready, and no pixel of the panel is marked
+  -- the device is ready, and no pixel of the panel is tainted
   module _ (served : refusesAllOn s ≡ 0) (clear : (x y : ℕ) → isPixelOn s Panel x y ≡ true → m Panel x y → ⊥) where
     is-record : isRecord (s .numbers) ≡ true
     is-record = served-record s served
@@ -93,7 +93,7 @@ abbrev numberBy : Bool → GdiState → (panel-len out-len : ℕ) → (wanted : 
 numberBy r b n got wanted =
     cond (eqb (cond r (commonRefusal b n (b .«store_len»)) 9) 0) (cond (eqb got (wanted (b .width) (b .height))) 0 8) (cond r (commonRefusal b n (b .«store_len»)) 9)
 
-number-same : {m : Marks} {s t : FlatDevice} → Linked m s t → (out out′ : List ℕ) → length out ≡ length out′ → (wanted : (width height : ℕ) → ℕ)
+number-same : {m : Taint} {s t : FlatDevice} → Linked m s t → (out out′ : List ℕ) → length out ≡ length out′ → (wanted : (width height : ℕ) → ℕ)
     → snapshotRefusal (s .numbers) (length (s .memories .panel)) (length out) wanted ≡ snapshotRefusal (t .numbers) (length (t .memories .panel)) (length out′) wanted
 unfolding snapshotRefusal
 number-same {t = t} l out out′ long wanted =
@@ -126,7 +126,7 @@ nine-refused s got wanted = by (isRecord (s .numbers)) (isSound (view (s .number
 abbrev pub Settled : FlatDevice → Type 0
 Settled s = (refusesAllOn s ≡ 0) ⊎ (refusesAllOn s ≡ 9)
 
-module _ {m : Marks} {s t : FlatDevice} (l : Linked m s t) (settled : Settled s) (clear : (x y : ℕ) → isPixelOn s Panel x y ≡ true → m Panel x y → ⊥) {f : Format} (saves : Saves f) where
+module _ {m : Taint} {s t : FlatDevice} (l : Linked m s t) (settled : Settled s) (clear : (x y : ℕ) → isPixelOn s Panel x y ≡ true → m Panel x y → ⊥) {f : Format} (saves : Saves f) where
   pub same-snapshots : SameSnapshots f s t
   same-snapshots =
       record {

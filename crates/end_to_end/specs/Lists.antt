@@ -11,15 +11,15 @@ use Rattle.numbers.specs.View.{view}
 use Rattle.ready.specs.Ready.{commonRefusalOn}
 use Rattle.place.specs.declared.SurfaceId.{SurfaceId}
 use Rattle.place.specs.Place.{whereIs}
-use Rattle.paint.specs.Memories.{Memories, inside, colourAt}
-use Rattle.paint.specs.Marks.{Marks}
+use Rattle.paint.specs.Memories.{Memories, hasPixel, colourAt}
+use Rattle.paint.specs.Taint.{Taint}
 use Rattle.plan.specs.Answer.{Parts}
 use Rattle.plan.specs.Followed.{Performed}
 use Rattle.execution.specs.Execution.{Device, device, Invocation}
-use Rattle.noninterference.specs.Claim.{marksOf}
+use Rattle.noninterference.specs.Claim.{taintOn}
 use Rattle.host_call.specs.declared.HostCall.{HostCall}
-use Rattle.host_call.specs.declared.CallRead.{CallRead}
-use Rattle.host_call.specs.declared.CallRead.the-variants.{NoCall, Is}
+use Rattle.host_call.specs.declared.ParsedCall.{ParsedCall}
+use Rattle.host_call.specs.declared.ParsedCall.the-variants.{NoCall, Is}
 use Rattle.host_call.specs.Call.{callOf}
 use Rattle.host_reply.specs.declared.Reply.{Reply}
 use Rattle.host.specs.Host.{HostPerformed}
@@ -39,13 +39,13 @@ refusesAllOn s = commonRefusalOn (s .numbers) (length (s .memories .panel)) (len
 
 -- a pixel of the device; one that refuses every call has none
 abbrev pub isPixelOn : FlatDevice → SurfaceId → (x y : ℕ) → Bool
-isPixelOn s u x y = eqb (refusesAllOn s) 0 && inside (whereIs (view (s .numbers)) u) x y
+isPixelOn s u x y = eqb (refusesAllOn s) 0 && hasPixel (whereIs (view (s .numbers)) u) x y
 
 abbrev pub colourOn : FlatDevice → SurfaceId → (x y : ℕ) → ℕ
 colourOn s u x y = colourAt (s .memories) (whereIs (view (s .numbers)) u) x y
 
--- Equal numbers, memories of equal lengths, and equal pixels except where marked.
-pub record EqualBut (m : Marks) (s t : FlatDevice) : Type 0 where
+-- Equal numbers, memories of equal lengths, and equal pixels except where tainted.
+pub record EqualBut (m : Taint) (s t : FlatDevice) : Type 0 where
   pub numbers : s .numbers ≡ t .numbers
   pub panels : length (s .memories .panel) ≡ length (t .memories .panel)
   pub stores : length (s .memories .store) ≡ length (t .memories .store)
@@ -84,7 +84,7 @@ pub record HostPromises (c : HostInvocation) (s : FlatDevice) (r : Reply) (t : F
   pub fields-length : length (r .fields) ≡ objectSize
 
 -- the calls that an argument is: numbers that are no call are none
-abbrev pub callsRead : CallRead → (units : List ℕ) → List Invocation
+abbrev pub callsRead : ParsedCall → (units : List ℕ) → List Invocation
 callsRead NoCall us = []
 callsRead (Is c) us = record { call = c; units = us } ∷ []
 
@@ -103,10 +103,10 @@ callsOf e [] = []
 callsOf e (c ∷ cs) = e .calls c ++ callsOf e cs
 
 pub record ListsAgree (e : Entry) : Type 1 where
-  -- Two callers lend the same but for marked pixels, whatever the numbers and memories are, and make the same list of calls: all
-  -- answers are equal, and afterwards all numbers and every pixel left unmarked.
-  pub lists : (cs : List (e .Argument)) (m : Marks) (s t s′ t′ : FlatDevice) (rs qs : List (e .Answer))
-      → EqualBut m s t → Made e cs s rs s′ → Made e cs t qs t′ → (rs ≡ qs) × EqualBut (marksOf (callsOf e cs) (deviceOf s) m) s′ t′
+  -- Two callers lend the same but for tainted pixels, whatever the numbers and memories are, and make the same list of calls: all
+  -- answers are equal, and afterwards all numbers and every pixel left untainted.
+  pub lists : (cs : List (e .Argument)) (m : Taint) (s t s′ t′ : FlatDevice) (rs qs : List (e .Answer))
+      → EqualBut m s t → Made e cs s rs s′ → Made e cs t qs t′ → (rs ≡ qs) × EqualBut (taintOn (callsOf e cs) (deviceOf s) m) s′ t′
   -- A ready device is ready after every list, so that the pixels do not go away.
   pub stays-ready : (cs : List (e .Argument)) (s s′ : FlatDevice) (rs : List (e .Answer)) → refusesAllOn s ≡ 0 → Made e cs s rs s′ → refusesAllOn s′ ≡ 0
   -- A device that refuses every call keeps every number and every byte.

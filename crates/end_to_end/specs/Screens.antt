@@ -7,9 +7,9 @@ use lib.ListN.{length}
 use Rattle.numbers.specs.View.{view}
 use Rattle.place.specs.declared.SurfaceId.{SurfaceId}
 use Rattle.place.specs.declared.SurfaceId.the-variants.{Panel}
-use Rattle.paint.specs.Marks.{Marks}
+use Rattle.paint.specs.Taint.{Taint}
 use Rattle.plan.specs.Open.{Opened}
-use Rattle.noninterference.specs.Claim.{marksOf}
+use Rattle.noninterference.specs.Claim.{taintOn}
 use Rattle.snapshot.specs.Snapshot.{Format, rgba8888, ppm, Snapped}
 use Rattle.end_to_end.specs.Lists.{FlatDevice, deviceOf, refusesAllOn, isPixelOn, colourOn, EqualBut, Entry, Made, callsOf}
 
@@ -64,8 +64,8 @@ pub record ScreensAgree (e : Entry) : Type 1 where
       → EqualLengths s t → Session e w h cs s n rs s′ → Session e w h cs t k qs t′ → SameSession n k rs qs s′ t′
   -- So it is at every point of the list: a point is the end of the list up to it.
   pub points : (cs ds : List (e .Argument)) (s t : FlatDevice) (rs : List (e .Answer)) → Made e (cs ++ ds) s rs t → Between e cs ds s rs t
-  -- Two callers lend ready devices that are the same but for marked pixels, and make the same list of calls. If no pixel of the
-  -- panel is marked afterwards, a snapshot is the same on both, whatever the marked pixels held.
-  pub unmarked : (f : Format) → Saves f → (cs : List (e .Argument)) (m : Marks) (s t s′ t′ : FlatDevice) (rs qs : List (e .Answer))
+  -- Two callers lend ready devices that are the same but for tainted pixels, and make the same list of calls. If no pixel of the
+  -- panel is tainted afterwards, a snapshot is the same on both, whatever the tainted pixels held.
+  pub untainted : (f : Format) → Saves f → (cs : List (e .Argument)) (m : Taint) (s t s′ t′ : FlatDevice) (rs qs : List (e .Answer))
       → EqualBut m s t → refusesAllOn s ≡ 0 → Made e cs s rs s′ → Made e cs t qs t′
-      → ((x y : ℕ) → isPixelOn s′ Panel x y ≡ true → marksOf (callsOf e cs) (deviceOf s) m Panel x y → ⊥) → SameSnapshots f s′ t′
+      → ((x y : ℕ) → isPixelOn s′ Panel x y ≡ true → taintOn (callsOf e cs) (deviceOf s) m Panel x y → ⊥) → SameSnapshots f s′ t′

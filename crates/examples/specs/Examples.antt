@@ -5,7 +5,7 @@ use mathlib.Core.Path.{_≡_, refl}
 use Prim.Native.Nat.{ℕ}
 use lib.IntN.{pos, negsuc}
 use lib.ListN.{replicate}
-use Rattle.laws.specs.Sum.{sumBelow}
+use Rattle.arithmetic.specs.Sum.{sumBelow}
 use Rattle.words.specs.Words.{written, word, painted}
 use Rattle.color.specs.Color.{packed, wideRed, wideGreen, wideBlue, from555}
 use Rattle.rop3.specs.Rop3.{tableOf, applied, usesSrc}
@@ -123,39 +123,39 @@ pub row-moved-onto-itself : after row (blit row 0xDEAD_0DC0 (record { x = pos 1;
 unfolding blit targetOf dcOf paintsOf after paintedBy painted written word applied packed
 row-moved-onto-itself = refl
 
--- a fresh bench: a panel of 1 by 1, a store of 12 bytes
-abbrev bench : GdiState
-bench = fresh 2 12 1 1
+-- a fresh device: a panel of 1 by 1, a store of 12 bytes
+abbrev device : GdiState
+device = fresh 2 12 1 1
 
 -- after 0xDEAD_5700 comes 0xDEAD_570A
-pub last-before-stock : newHandle (withObjects bench 0xDEAD_5700 0 (bench .objects)) ≡ 0xDEAD_5700
+pub last-before-stock : newHandle (withObjects device 0xDEAD_5700 0 (device .objects)) ≡ 0xDEAD_5700
 unfolding firstFree free isStock
 last-before-stock = refl
 
-pub stock-stepped-over : (o : GdiObject) → newHandle (added (withObjects bench 0xDEAD_5700 0 (bench .objects)) o) ≡ 0xDEAD_570A
+pub stock-stepped-over : (o : GdiObject) → newHandle (added (withObjects device 0xDEAD_5700 0 (device .objects)) o) ≡ 0xDEAD_570A
 unfolding added firstFree free isStock
 stock-stepped-over o = refl
 
--- fresh bench, store of 12 bytes: bitmap 0 by 5 fits as 1 by 5
-pub bitmap-fits : createBitmap bench 0 5 .outcome .answer ≡ answered 0xDEAD_1000
+-- fresh device, store of 12 bytes: bitmap 0 by 5 fits as 1 by 5
+pub bitmap-fits : createBitmap device 0 5 .outcome .answer ≡ answered 0xDEAD_1000
 unfolding createBitmap createOf sumBelow firstFree free isStock
 bitmap-fits = refl
 
-pub bitmap-widened : objectAt (createBitmap bench 0 5 .outcome .state) 0 ≡ Bitmap (freshBitmap 1 5)
+pub bitmap-widened : objectAt (createBitmap device 0 5 .outcome .state) 0 ≡ Bitmap (freshBitmap 1 5)
 unfolding createBitmap createOf sumBelow added firstFree free isStock
 bitmap-widened = refl
 
 -- 1 by 6 is 7
-pub bitmap-too-long : createBitmap bench 1 6 ≡ refuse 7 bench
+pub bitmap-too-long : createBitmap device 1 6 ≡ refuse 7 device
 unfolding createBitmap createOf sumBelow
 bitmap-too-long = refl
 
 -- side 4,097 is 6
-pub bitmap-too-wide : (h : ℕ) → createBitmap bench 4097 h ≡ refuse 6 bench
+pub bitmap-too-wide : (h : ℕ) → createBitmap device 4097 h ≡ refuse 6 device
 unfolding createBitmap
 bitmap-too-wide h = refl
 
-pub bitmap-too-high : createBitmap bench 1 4097 ≡ refuse 6 bench
+pub bitmap-too-high : createBitmap device 1 4097 ≡ refuse 6 device
 unfolding createBitmap
 bitmap-too-high = refl
 

@@ -6,9 +6,9 @@ use Prim.Native.Nat.{ℕ, _+_, _≤_, _<_}
 use native.Mathlib.Omega.{arith}
 use lib.Dec.{leb, ltb}
 use borrow.Author.Tests.{leb-false, ltb-false, lt-ltb}
-use Rattle.laws.proofs.Test.{both, neither, together}
+use Rattle.arithmetic.proofs.Test.{both, neither, together}
 use Rattle.rop3.specs.Rop3.{tableOf}
-use Rattle.clip_blit.specs.Blit.{drawn}
+use Rattle.clip_blit.specs.Blit.{drawnAlong}
 use Rattle.clip_blit.proofs.Blit.{drawn-source}
 use Rattle.surface.specs.Refusal.{side}
 use Rattle.gdi.specs.declared.GdiState.{GdiState}
@@ -34,7 +34,7 @@ use Rattle.dirty.specs.Dirty.{dirtied}
 use Rattle.dirty.proofs.Still.{dirtied-still}
 use Rattle.handles.specs.Handles.{added}
 use Rattle.handles.proofs.Added.{added-sound}
-use Rattle.paint.specs.Memories.{widthOf, heightOf, inside}
+use Rattle.paint.specs.Memories.{widthOf, heightOf, hasPixel}
 use Rattle.paint.specs.Paint.{blank, only}
 use Rattle.paint.proofs.Draws.{Sourced}
 use Rattle.paint.proofs.Blanks.{Blanked, new-blanked, sized-blanked}
@@ -43,10 +43,10 @@ use Rattle.plan.specs.declared.Point.{Point}
 use Rattle.plan.specs.declared.Call.{Call}
 use Rattle.plan.specs.declared.Call.the-variants.{CreateMemoryDc, CreateCompatibleBitmap, CreateSolidBrush, CreatePen, CreateFont, Delete, Remove, SelectInto, SetTextColor, SetTextAlign, SetBkColor, SetBkMode, PatternFill, Rectangle, Text, PanelFill, Resize, Blit}
 use Rattle.plan.specs.Answer.{Parts, done}
-use Rattle.plan.specs.Plan.{Plan, told, refuse}
+use Rattle.plan.specs.Plan.{Plan, recordOnly, refuse}
 use Rattle.plan.specs.Stroke.{Stroke, drawnBy}
-use Rattle.plan.specs.Create.{made, createOf, newBitmap, createBitmap}
-use Rattle.plan.specs.Delete.{goneAt, goes}
+use Rattle.plan.specs.Create.{creation, createOf, newBitmap, createBitmap}
+use Rattle.plan.specs.Delete.{deletionAt, deletionOf}
 use Rattle.plan.specs.Drawing.{packedOf, blitted, blit}
 use Rattle.plan.specs.Panel.{panelFillStroke, resized}
 use Rattle.plan.specs.Calls.{act}
@@ -72,18 +72,18 @@ pub data Shape (b : GdiState) : Plan → Type 0 where
   strokes : (ss : List Stroke) (a : Parts) → AllSourced b ss → Shape b (drawnBy b ss a)
   blanks : (b′ : GdiState) (a : Parts) (k : Memory) (p n : ℕ) (clears : SurfaceId → Bool) → Blanks b b′ k p n clears
       → Shape b (record { outcome = record { state = b′; answer = a }; paint = blank k p n clears ∷ [] })
-  deletion : (gone : ℕ → Parts) (none : Parts) (h i : ℕ) → isStock h ≡ false → findOf b h ≡ FoundAt i → Shape b (goneAt gone none b h (FoundAt i))
+  deletion : (gone : ℕ → Parts) (none : Parts) (h i : ℕ) → isStock h ≡ false → findOf b h ≡ FoundAt i → Shape b (deletionAt gone none b h (FoundAt i))
 
 module _ (b : GdiState) where
   -- a refusal, or an answer alone
-  unchanged : (a : Parts) → Shape b (told b a)
+  unchanged : (a : Parts) → Shape b (recordOnly b a)
   unchanged a = record-only (record { paint = refl; still = still-same b })
 
   refused : (n : ℕ) → Shape b (refuse n b)
   refused n = unchanged _
 
   -- an object more: its pixels are new and black
-  new-object : (o : GdiObject) → objectFits o ≡ true → b .count < 256 → used b + bytesOf o ≤ b .«store_len» → Shape b (made b o)
+  new-object : (o : GdiObject) → objectFits o ≡ true → b .count < 256 → used b + bytesOf o ≤ b .«store_len» → Shape b (creation b o)
   new-object o fits few room =
       blanks (added b o) _ Store (used b) (bytesOf o) _ (record {
         fits = room;
@@ -95,7 +95,7 @@ module _ (b : GdiState) where
   unfolding createOf
   create-shape o fits = by (leb 256 (b .count)) refl (ltb (b .«store_len») (used b + bytesOf o)) refl
     where
-      by : (t : Bool) → leb 256 (b .count) ≡ t → (u : Bool) → ltb (b .«store_len») (used b + bytesOf o) ≡ u → Shape b (cond t (refuse 5 b) (cond u (refuse 7 b) (made b o)))
+      by : (t : Bool) → leb 256 (b .count) ≡ t → (u : Bool) → ltb (b .«store_len») (used b + bytesOf o) ≡ u → Shape b (cond t (refuse 5 b) (cond u (refuse 7 b) (creation b o)))
       by true e u f = refused 5
       by false e true f = refused 7
       by false e false f = new-object o fits (leb-false _ _ e) (ltb-false _ _ f)
@@ -108,23 +108,23 @@ module _ (b : GdiState) where
       by true e = refused 6
       by false e = let s = neither (ltb 4096 w) (ltb 4096 h) e in create-shape (newBitmap w h) (bitmap-fits w h (ltb-false 4096 w (s .0)) (ltb-false 4096 h (s .1)))
 
-  goes-shape : (stock : Parts) (gone : ℕ → Parts) (none : Parts) (h : ℕ) → Shape b (goes stock gone none b h)
-  unfolding goes
+  goes-shape : (stock : Parts) (gone : ℕ → Parts) (none : Parts) (h : ℕ) → Shape b (deletionOf stock gone none b h)
+  unfolding deletionOf
   goes-shape stock gone none h = by (isStock h) refl (findOf b h) refl
     where
-      by : (t : Bool) → isStock h ≡ t → (q : Found) → findOf b h ≡ q → Shape b (cond t (told b stock) (goneAt gone none b h q))
+      by : (t : Bool) → isStock h ≡ t → (q : Found) → findOf b h ≡ q → Shape b (cond t (recordOnly b stock) (deletionAt gone none b h q))
       by true e q f = unchanged stock
       by false e (FoundAt i) f = deletion gone none h i e f
       by false e Nothing f = unchanged none
 
   -- a blit takes only pixels of its source
-  source-inside : (at : Place) (x y : ℕ) → x < widthOf at → y < heightOf at → inside at x y ≡ true
+  source-inside : (at : Place) (x y : ℕ) → x < widthOf at → y < heightOf at → hasPixel at x y ≡ true
   source-inside Nowhere x y e f = absurd (omega (arith, e))
   source-inside (At m p w h) x y e f = together (lt-ltb x w e) (lt-ltb y h f)
 
   blit-sourced : (s q : SurfaceId) (a : Area) (p : Point) (t c : ℕ) → Sourced b (blitted s q (whereIs b q) a p t c)
   blit-sourced s q a p t c x y e =
-      let (col, row) = both (drawn (a .x) (p .x) (a .w) (widthOf (whereIs b q)) x) _ e in
+      let (col, row) = both (drawnAlong (a .x) (p .x) (a .w) (widthOf (whereIs b q)) x) _ e in
       source-inside (whereIs b q) _ _ (drawn-source (a .x) (p .x) (a .w) (widthOf (whereIs b q)) x col) (drawn-source (a .y) (p .y) (a .h) (heightOf (whereIs b q)) y row)
 
   blit-shape : (dc : ℕ) (a : Area) (src : ℕ) (p : Point) (rop : ℕ) → Shape b (blit b dc a src p rop)

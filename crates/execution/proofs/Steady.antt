@@ -14,8 +14,8 @@ use Rattle.removal.specs.Removal.{withoutAt}
 use Rattle.removal.proofs.Sound.{removed-sound}
 use Rattle.paint.specs.Memories.{Memories, memoryOf}
 use Rattle.paint.specs.Paint.{Paint, after}
-use Rattle.paint.proofs.Alike.{Looks}
-use Rattle.paint.proofs.Draws.{drawn-panel, drawn-store, drawn-looks}
+use Rattle.paint.proofs.Alike.{ReadyWith}
+use Rattle.paint.proofs.Draws.{drawn-panel, drawn-store, drawn-ready}
 use Rattle.paint.proofs.Blanks.{blank-panel, blank-store}
 use Rattle.paint.proofs.Closed.{closed-panel, closed-store}
 use Rattle.plan.specs.Plan.{Plan}
@@ -25,9 +25,9 @@ use Rattle.execution.proofs.Shape.{Shape, record-only, strokes, blanks,
 
 -- These paints keep the memories' lengths, and the record b′ after them is ready where b is.
 pub record Steady (b : GdiState) (ps : List Paint) (b′ : GdiState) : Type 0 where
-  pub panel : (ms : Memories) → Looks b ms → length (after b ps ms .panel) ≡ length (ms .panel)
-  pub store : (ms : Memories) → Looks b ms → length (after b ps ms .store) ≡ length (ms .store)
-  pub looks : {n k : ℕ} → Ready b n k → Ready b′ n k
+  pub panel : (ms : Memories) → ReadyWith b ms → length (after b ps ms .panel) ≡ length (ms .panel)
+  pub store : (ms : Memories) → ReadyWith b ms → length (after b ps ms .store) ≡ length (ms .store)
+  pub stays-ready : {n k : ℕ} → Ready b n k → Ready b′ n k
 
 -- no paint, and every surface in its place
 still-steady : {b b′ : GdiState} → Still b b′ → Steady b [] b′
@@ -36,7 +36,7 @@ still-steady s =
     record {
       panel = λ ms l. refl;
       store = λ ms l. refl;
-      looks = λ r. record { sound = s .sound (r .sound); panel = r .panel ∙ sym (s .panel-len); store = r .store ∙ sym (s .store-len) };
+      stays-ready = λ r. record { sound = s .sound (r .sound); panel = r .panel ∙ sym (s .panel-len); store = r .store ∙ sym (s .store-len) };
     }
 
 -- drawings
@@ -46,17 +46,17 @@ and-strokes [] s = still-steady s
 and-strokes {b} (t ∷ ss) s =
     let k = and-strokes ss s in
     record {
-      panel = λ ms l. k .panel _ (drawn-looks b (t .drawing) ms l) ∙ drawn-panel b (t .drawing) ms l;
-      store = λ ms l. k .store _ (drawn-looks b (t .drawing) ms l) ∙ drawn-store b (t .drawing) ms l;
-      looks = k .looks;
+      panel = λ ms l. k .panel _ (drawn-ready b (t .drawing) ms l) ∙ drawn-panel b (t .drawing) ms l;
+      store = λ ms l. k .store _ (drawn-ready b (t .drawing) ms l) ∙ drawn-store b (t .drawing) ms l;
+      stays-ready = k .stays-ready;
     }
 
 -- a range of a memory that fits the memories lent with a record
-memory-length : (b : GdiState) (ms : Memories) → Looks b ms → (k : Memory) → length (memoryOf ms k) ≡ lengthOf (b .«panel_len») (b .«store_len») k
+memory-length : (b : GdiState) (ms : Memories) → ReadyWith b ms → (k : Memory) → length (memoryOf ms k) ≡ lengthOf (b .«panel_len») (b .«store_len») k
 memory-length b ms l PanelMemory = l .panel
 memory-length b ms l Store = l .store
 
-pub range-fits : (b : GdiState) (ms : Memories) → Looks b ms → (k : Memory) (p n : ℕ) → p + n ≤ lengthOf (b .«panel_len») (b .«store_len») k → p + n ≤ length (memoryOf ms k)
+pub range-fits : (b : GdiState) (ms : Memories) → ReadyWith b ms → (k : Memory) (p n : ℕ) → p + n ≤ lengthOf (b .«panel_len») (b .«store_len») k → p + n ≤ length (memoryOf ms k)
 range-fits b ms l k p n fits = rw (memory-length b ms l k) fits
 
 pub shape-steady : {b : GdiState} {p : Plan} → Shape b p → Steady b (p .paint) (p .outcome .state)
@@ -67,11 +67,11 @@ shape-steady {b} (blanks b′ a k p n clears x) =
     record {
       panel = λ ms l. blank-panel b p n clears ms k (range-fits b ms l k p n (x .fits));
       store = λ ms l. blank-store b p n clears ms k (range-fits b ms l k p n (x .fits));
-      looks = x .ready _ _;
+      stays-ready = x .ready _ _;
     }
 shape-steady {b} (deletion gone none h i created found) =
     record {
       panel = λ ms l. closed-panel b h i found ms;
       store = closed-store b h i found;
-      looks = λ r. record { sound = removed-sound b i (r .sound) (found-count b h found); panel = unfold withoutAt in r .panel; store = unfold withoutAt in r .store };
+      stays-ready = λ r. record { sound = removed-sound b i (r .sound) (found-count b h found); panel = unfold withoutAt in r .panel; store = unfold withoutAt in r .store };
     }

@@ -5,9 +5,9 @@ use mathlib.Core.Path.{_≡_, refl, _∙_, ap}
 use lib.Dec.{eqb}
 use lib.ListN.{length}
 use borrow.Author.Tests.{eqb-true}
-use Rattle.ready.proofs.Ready.{ready, looks}
+use Rattle.ready.proofs.Ready.{ready, ready-accepts}
 use Rattle.paint.specs.Paint.{after}
-use Rattle.paint.proofs.Alike.{Looks}
+use Rattle.paint.proofs.Alike.{ReadyWith}
 use Rattle.plan.specs.Plan.{Plan, refuse}
 use Rattle.plan.specs.Calls.{act, plan}
 use Rattle.execution.specs.Execution.{Device, device, refusesAll, Invocation, step, run}
@@ -30,12 +30,12 @@ step-kept c s = by (eqb (refusesAll s) 0) refl
   where
     by : (t : Bool) → eqb (refusesAll s) 0 ≡ t → Kept s (device (chosen c s t .outcome .state) (after (s .state) (chosen c s t .paint) (s .memories)))
     by true e =
-        let l : Looks (s .state) (s .memories) = ready (s .state) _ _ _ refl (eqb-true _ _ e) in
+        let l : ReadyWith (s .state) (s .memories) = ready (s .state) _ _ _ refl (eqb-true _ _ e) in
         let k = shape-steady (act-shape (s .state) (c .call) (c .units)) in
         record {
           panel = k .panel (s .memories) l;
           store = k .store (s .memories) l;
-          looked = λ z. rw (k .panel (s .memories) l, k .store (s .memories) l) (looks (k .looks l));
+          looked = λ z. rw (k .panel (s .memories) l, k .store (s .memories) l) (ready-accepts (k .stays-ready l));
         }
     by false e = unfold after in record { panel = refl; store = refl; looked = λ z. z }
 

@@ -8,7 +8,7 @@ use Rattle.gdi.specs.declared.GdiState.{GdiState}
 use Rattle.ready.specs.Ready.{commonRefusal}
 use Rattle.place.specs.declared.SurfaceId.{SurfaceId}
 use Rattle.place.specs.Place.{whereIs}
-use Rattle.paint.specs.Memories.{Memories, inside}
+use Rattle.paint.specs.Memories.{Memories, hasPixel}
 use Rattle.paint.specs.Paint.{after}
 use Rattle.plan.specs.declared.Call.{Call}
 use Rattle.plan.specs.Plan.{Outcome, Plan}
@@ -28,7 +28,7 @@ refusesAll s = commonRefusal (s .state) (length (s .memories .panel)) (length (s
 
 -- a pixel of the device; a device that refuses every call has none
 abbrev pub isPixel : Device → SurfaceId → (x y : ℕ) → Bool
-isPixel s u x y = eqb (refusesAll s) 0 && inside (whereIs (s .state) u) x y
+isPixel s u x y = eqb (refusesAll s) 0 && hasPixel (whereIs (s .state) u) x y
 
 -- A call as it is made: a text with its units.
 pub record Invocation : Type 0 where

@@ -9,7 +9,7 @@ use lib.Dec.{ltb}
 use lib.IntN.{ℤ}
 use lib.ListN.{length}
 use borrow.Author.Tests.{lt-ltb, le-ltb}
-use Rattle.laws.proofs.Test.{together, not-left, not-right}
+use Rattle.arithmetic.proofs.Test.{together, not-left, not-right}
 use Rattle.words.specs.Words.{painted}
 use Rattle.words.proofs.Painted.{painted-none, painted-cong}
 use Rattle.clip.specs.declared.Rect.{Rect}

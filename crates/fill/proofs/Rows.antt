@@ -5,8 +5,8 @@ use mathlib.Core.List.{List}
 use Prim.Native.Nat.{ℕ, _+_, _*_, _/_, _%_, _≤_, _<_, max}
 use native.Mathlib.Omega.{arith}
 use lib.ListN.{length}
-use Rattle.laws.specs.Interval.{between}
-use Rattle.laws.proofs.Interval.{bounds, between-cong}
+use Rattle.arithmetic.specs.Interval.{between}
+use Rattle.arithmetic.proofs.Interval.{bounds, between-cong}
 use Rattle.words.specs.Words.{word, painted}
 use Rattle.words.proofs.Painted.{painted-none, painted-again, painted-cong, word-kept}
 use Rattle.surface.specs.Region.{wordsOf}

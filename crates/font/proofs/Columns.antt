@@ -9,7 +9,7 @@ use native.Mathlib.Omega.{arith}
 use lib.Dec.{ltb, eqb}
 use lib.ListN.{getD}
 use borrow.Author.Tests.{le-ltb, eqb-true}
-use Rattle.laws.proofs.Test.{both}
+use Rattle.arithmetic.proofs.Test.{both}
 use Rattle.font.specs.Font.{glyphs, glyphOf, inkAt, inked}
 
 -- the three lowest bits of a row are 0

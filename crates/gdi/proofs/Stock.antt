@@ -7,7 +7,7 @@ use lib.Dec.{T}
 use mir.Val.{hasKey}
 use types.Run.{OneOf, hit, miss}
 use borrow.Author.Tests.{lt-leb, le-leb}
-use Rattle.laws.proofs.Test.{and-false}
+use Rattle.arithmetic.proofs.Test.{and-false}
 use Rattle.gdi.specs.Stock.{isStock}
 
 -- the test of keys, from what a `match` on a number gives

@@ -1,4 +1,4 @@
--- The bench record: sizes, records by their fields, fresh records, vacant slots.
+-- The device record: sizes, records by their fields, fresh records, vacant slots.
 use mathlib.Core.Bool.{Bool, false}
 use mathlib.Core.List.{List}
 use Prim.Native.Nat.{ℕ, _*_}
@@ -86,7 +86,7 @@ freshBitmap w h = record { width = w; height = h; «host_dirty» = false }
 abbrev pub defaultDc : Dc
 defaultDc = dcOn Memory
 
--- the screen DC of a fresh bench
+-- the screen DC of a fresh device
 abbrev pub screenDc : Dc
 screenDc = dcOn Screen
 
@@ -98,6 +98,6 @@ noSlot = record { handle = 0; object = DcOf (dcWith Screen Unset 0 0 0 (record {
 abbrev pub vacantSlot : Slot
 vacantSlot = record { handle = 0; object = Brush (record { color = record { 0 = 0 } }) }
 
--- a fresh bench has frame counter 0, next handle 0xDEAD_1000 and no created object
+-- a fresh device has frame counter 0, next handle 0xDEAD_1000 and no created object
 abbrev pub fresh : (panel-len store-len width height : ℕ) → GdiState
 fresh panel-len store-len width height = stateWith panel-len store-len width height 0 0xDEAD_1000 screenDc false 0 (replicate 256 vacantSlot)

@@ -35,9 +35,9 @@ abbrev pub withScreen : GdiState → Dc → GdiState
 withScreen b d = stateWith (b .«panel_len») (b .«store_len») (b .width) (b .height) (b .«frame_counter») (b .«next_handle») d (b .«stock_dirty») (b .count) (b .objects)
 
 -- the record with d as the DC h, which stands at a spot
-abbrev pub storeOf : GdiState → (h : ℕ) → Spot → Dc → GdiState
-storeOf b h Screen d = withScreen b d
-storeOf b h (Created i) d = withObjects b (b .«next_handle») (b .count) (set (b .objects) i (record { handle = h; object = DcOf d }))
+abbrev pub withDc : GdiState → (h : ℕ) → Spot → Dc → GdiState
+withDc b h Screen d = withScreen b d
+withDc b h (Created i) d = withObjects b (b .«next_handle») (b .count) (set (b .objects) i (record { handle = h; object = DcOf d }))
 
 -- a bitmap with its dirty mark
 abbrev pub withHostDirty : Bitmap → Bitmap

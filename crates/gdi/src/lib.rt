@@ -1,4 +1,4 @@
-// The types of the bench record, DCs and objects by value, and the stock objects.
+// The types of the device record, DCs and objects by value, and the stock objects.
 ghost use mathlib.Core.Path.{_≡_};
 ghost use mathlib.Core.Bool.{true};
 ghost use Rattle.gdi.specs.Record.{freshBitmap, dcOn, defaultDc, screenDc, vacantSlot};
@@ -97,7 +97,7 @@ pub struct Slot {
     pub object: GdiObject,
 }
 
-// The bench record as definitions have it; code has it as lent numbers (crate `numbers`). The lengths of the two lent memories,
+// The device record as definitions have it; code has it as lent numbers (crate `numbers`). The lengths of the two lent memories,
 // the panel, the counters, the screen DC, the stock bitmap's dirty mark, and the created objects in order of creation: the first
 // count slots hold them.
 pub struct GdiState {
@@ -222,7 +222,7 @@ pub fn default_dc() -> Dc
     dc_on(DcSurface::Memory)
 }
 
-// The record of the screen DC of a fresh bench.
+// The record of the screen DC of a fresh device.
 pub fn screen_dc() -> Dc
     ensures { λ r. ⌜ r ≡ screenDc ⌝ }
 {

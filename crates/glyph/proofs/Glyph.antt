@@ -6,11 +6,11 @@ use Prim.Native.Nat.{ℕ, _+_, _-_, _*_, _/_, _%_, _≤_, _<_}
 use native.Mathlib.Omega.{arith}
 use lib.IntN.{ℤ, pos}
 use lib.ListN.{getD}
-use Rattle.laws.specs.Interval.{between}
-use Rattle.laws.specs.Integer.{positive}
-use Rattle.laws.specs.Inner.{negative}
-use Rattle.laws.proofs.Interval.{Lies, inside, before, behind, where-is, between-yes, between-no, bounds}
-use Rattle.laws.proofs.Test.{and-false, not-left}
+use Rattle.arithmetic.specs.Interval.{between}
+use Rattle.arithmetic.specs.Integer.{positive}
+use Rattle.arithmetic.specs.Inner.{negative}
+use Rattle.arithmetic.proofs.Interval.{Lies, inside, before, behind, where-is, between-yes, between-no, bounds}
+use Rattle.arithmetic.proofs.Test.{and-false, not-left}
 use Rattle.clip.specs.Clip.{covers}
 use Rattle.clip.proofs.Clip.{covers-parts}
 use Rattle.font.specs.Font.{glyphOf, inkAt}

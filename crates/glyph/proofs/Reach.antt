@@ -3,10 +3,10 @@ use mathlib.Core.Path.{_≡_, _∙_, ap}
 use Prim.Native.Nat.{ℕ, _+_, _-_, _≤_, _<_, min}
 use native.Mathlib.Omega.{arith}
 use lib.IntN.{ℤ, pos, _+ℤ_, _-ℤ_}
-use Rattle.laws.specs.Interval.{between}
-use Rattle.laws.specs.Integer.{positive}
-use Rattle.laws.specs.Inner.{negative}
-use Rattle.laws.proofs.Integer.{sum, difference, one-part, eq-parts}
+use Rattle.arithmetic.specs.Interval.{between}
+use Rattle.arithmetic.specs.Integer.{positive}
+use Rattle.arithmetic.specs.Inner.{negative}
+use Rattle.arithmetic.proofs.Integer.{sum, difference, one-part, eq-parts}
 use Rattle.clip.specs.Clip.{nearest, covers, clippedAxis}
 use Rattle.clip.proofs.Clip.{nearest-parts, clip-covers}
 use Rattle.glyph.specs.declared.Stretch.{Stretch}

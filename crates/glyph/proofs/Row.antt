@@ -10,9 +10,9 @@ use native.Mathlib.Omega.{arith}
 use lib.Dec.{ltb}
 use lib.ListN.{length, set, getD}
 use borrow.Author.Tests.{lt-ltb, ne-eqb}
-use Rattle.laws.specs.Interval.{between}
-use Rattle.laws.proofs.Interval.{between-yes, between-no, between-cong}
-use Rattle.laws.proofs.Test.{not-left, not-right}
+use Rattle.arithmetic.specs.Interval.{between}
+use Rattle.arithmetic.proofs.Interval.{between-yes, between-no, between-cong}
+use Rattle.arithmetic.proofs.Test.{not-left, not-right}
 use Rattle.words.specs.Words.{painted, word}
 use Rattle.words.proofs.Painted.{painted-none, painted-again, painted-set, word-again}
 use Rattle.font.specs.Font.{inkAt}

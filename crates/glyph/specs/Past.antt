@@ -1,7 +1,7 @@
 -- How far a coordinate lies past another.
 use Prim.Native.Nat.{ℕ}
 use lib.IntN.{ℤ, pos, _-ℤ_}
-use Rattle.laws.specs.Integer.{positive}
+use Rattle.arithmetic.specs.Integer.{positive}
 
 -- how far the coordinate c lies past z
 abbrev pub past : ℤ → ℕ → ℕ

@@ -9,10 +9,10 @@ use lib.Dec.{eqb}
 use lib.ListN.{length, getD, take, drop, List·getD-append}
 use lib.Seq.{getD-take, getD-at, length-take-le}
 use borrow.Author.Tests.{not-true}
-use Rattle.laws.specs.Test.{allBelow}
-use Rattle.laws.specs.Sum.{sumBelow}
-use Rattle.laws.proofs.Test.{both, together, all-more, all-same}
-use Rattle.laws.proofs.Sum.{sum-suc, sum-same}
+use Rattle.arithmetic.specs.Test.{allBelow}
+use Rattle.arithmetic.specs.Sum.{sumBelow}
+use Rattle.arithmetic.proofs.Test.{both, together, all-more, all-same}
+use Rattle.arithmetic.proofs.Sum.{sum-suc, sum-same}
 use Rattle.gdi.specs.declared.GdiState.{GdiState}
 use Rattle.gdi.specs.declared.Slot.{Slot}
 use Rattle.gdi.specs.declared.GdiObject.{GdiObject}

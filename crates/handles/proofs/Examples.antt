@@ -12,9 +12,9 @@ use Rattle.handles.specs.Handles.{free, firstFree, newHandle, added}
 abbrev withNext : GdiState → ℕ → GdiState
 withNext b h = withObjects b h (b .count) (b .objects)
 
--- a bench without objects, at this next handle
-abbrev benchAt : ℕ → GdiState
-benchAt h = withNext (fresh 2 12 1 1) h
+-- a device without objects, at this next handle
+abbrev deviceAt : ℕ → GdiState
+deviceAt h = withNext (fresh 2 12 1 1) h
 
 -- the first handle
 pub first : newHandle (fresh 2 12 1 1) ≡ 0xDEAD_1000
@@ -27,11 +27,11 @@ unfolding added firstFree free isStock
 next o = refl
 
 -- after the last value comes 1
-pub after-last : (o : GdiObject) → newHandle (added (benchAt 0xFFFF_FFFF) o) ≡ 1
+pub after-last : (o : GdiObject) → newHandle (added (deviceAt 0xFFFF_FFFF) o) ≡ 1
 unfolding added firstFree free isStock
 after-last o = refl
 
 -- a live handle is not given again
-pub past-live : (o : GdiObject) → newHandle (withNext (added (benchAt 0xDEAD_1000) o) 0xDEAD_1000) ≡ 0xDEAD_1001
+pub past-live : (o : GdiObject) → newHandle (withNext (added (deviceAt 0xDEAD_1000) o) 0xDEAD_1000) ≡ 0xDEAD_1001
 unfolding added firstFree free isStock
 past-live o = refl

@@ -10,7 +10,7 @@ use lib.Dec.{ltb}
 use lib.ListN.{length, drop, set, length-set}
 use lib.Seq.{set-split, getD-set-same, getD-set-other}
 use borrow.Author.Tests.{lt-ltb}
-use Rattle.laws.proofs.Test.{all-of, same-order}
+use Rattle.arithmetic.proofs.Test.{all-of, same-order}
 use Rattle.words.specs.Parts.{part}
 use Rattle.words.proofs.Parts.{part-same}
 use Rattle.gdi.specs.declared.Slot.{Slot}
@@ -19,7 +19,7 @@ use Rattle.gdi.specs.Record.{vacantSlot}
 use Rattle.gdi.specs.Updates.{withObjects}
 use Rattle.numbers.specs.Layout.{dcSize, slotSize, headSize, recordSize, nextHandlePlace, stockDirtyPlace, countPlace, screenPlace, slotPlace}
 use Rattle.numbers.specs.Block.{at, isDc, slotOf, isSlot}
-use Rattle.numbers.specs.View.{slotIn, tableOf, view, isRecord, Stored}
+use Rattle.numbers.specs.View.{slotIn, slotTable, view, isRecord, Updated}
 use Rattle.numbers.proofs.Block.{SlotCoded}
 use Rattle.numbers.proofs.Record.{parts, by-slots}
 use Rattle.numbers.proofs.View.{length-table, table-set}
@@ -55,12 +55,12 @@ module _ (l m l′ : List ℕ) (r : isRecord l ≡ true) (few : at l countPlace 
       ap (λ (t : Bool). cond t (slotOf (part l′ (slotPlace (at l countPlace)) slotSize)) vacantSlot) (lt-ltb (at l countPlace) (at l′ countPlace) (omega arith))
       ∙ ap slotOf (slots-kept (at l countPlace)) ∙ coded .same
 
-  table : tableOf l′ (at l′ countPlace) ≡ inserted (tableOf l (at l countPlace)) (at l countPlace) s
+  table : slotTable l′ (at l′ countPlace) ≡ inserted (slotTable l (at l countPlace)) (at l countPlace) s
   table =
       sym (table-set (slotIn l (at l countPlace)) (slotIn l′ (at l′ countPlace)) (at l countPlace) few
       (λ j h ne. sym (slot-as l l′ (at l countPlace) (at l′ countPlace) j (same-order (suc j) (at l′ countPlace) (suc j) (at l countPlace) (λ x. omega arith) (λ x. omega arith)) (other j ne))))
-      ∙ ap (λ (x : Slot). set (tableOf l (at l countPlace)) (at l countPlace) x) there
-      ∙ set-split (tableOf l (at l countPlace)) (at l countPlace) s (omega (arith, length-table (slotIn l (at l countPlace)) 0 256))
+      ∙ ap (λ (x : Slot). set (slotTable l (at l countPlace)) (at l countPlace) x) there
+      ∙ set-split (slotTable l (at l countPlace)) (at l countPlace) s (omega (arith, length-table (slotIn l (at l countPlace)) 0 256))
 
   slots : (j : ℕ) → j < at l′ countPlace → Dec (j ≡ at l countPlace) → isSlot (part l′ (slotPlace j) slotSize) ≡ true
   slots j h (yes e) = rw e (ap isSlot (slots-kept (at l countPlace)) ∙ coded .is-slot)
@@ -79,7 +79,7 @@ module _ (l m l′ : List ℕ) (r : isRecord l ≡ true) (few : at l countPlace 
   unfolding view
   rest = tail-kept counted (slotPlace (at l countPlace + 1)) (omega arith) ∙ tail-kept put (slotPlace (at l countPlace + 1)) (omega arith)
 
-  grown : Stored l (withObjects (view l) next (view l .count + 1) (inserted (view l .objects) (view l .count) s)) l′
+  grown : Updated l (withObjects (view l) next (view l .count + 1) (inserted (view l .objects) (view l .count) s)) l′
   grown = record { is-record = again; same = seen; rest = rest }
 
 -- as the code lends the slot, has it back, and stores the two numbers
@@ -98,7 +98,7 @@ module _ (l : List ℕ) (r : isRecord l ≡ true) (few : at l countPlace < 256) 
     back-long = put-in .long ∙ parts l r .long
 
     pub appended : {h n : ℕ} {o : GdiObject} → n ≡ ahead h 1 → SlotCoded (record { handle = h; object = o }) x
-        → Stored l (addedAs (view l) h o) (set (set (slotBack l (at l countPlace) x) nextHandlePlace n) countPlace (at l countPlace + 1))
+        → Updated l (addedAs (view l) h o) (set (set (slotBack l (at l countPlace) x) nextHandlePlace n) countPlace (at l countPlace + 1))
     appended {h} {n} {o} e coded = grown l m l′ r few put-in counted same (next ∙ e) count there
       where
         m : List ℕ

@@ -9,7 +9,7 @@ use lib.Dec.{eqb, leb}
 use lib.ListN.{length, length-append}
 use mir.Val.{hasKey}
 use borrow.Author.Tests.{eqb-true, eqb-false, leb-true}
-use Rattle.laws.proofs.Test.{all-suc}
+use Rattle.arithmetic.proofs.Test.{all-suc}
 use Rattle.gdi.specs.declared.Slot.{Slot}
 use Rattle.gdi.specs.Stock.{isStock}
 use Rattle.gdi.specs.Lookup.{handleAt}

@@ -10,14 +10,14 @@ use Rattle.plan.specs.Plan.{Plan, refuse}
 use Rattle.plan.specs.Calls.{planOn}
 use Rattle.plan.specs.Followed.{Followed}
 use Rattle.host_call.specs.declared.HostCall.{HostCall}
-use Rattle.host_call.specs.declared.CallRead.{CallRead}
-use Rattle.host_call.specs.declared.CallRead.the-variants.{NoCall, Is}
+use Rattle.host_call.specs.declared.ParsedCall.{ParsedCall}
+use Rattle.host_call.specs.declared.ParsedCall.the-variants.{NoCall, Is}
 use Rattle.host_call.specs.Call.{callOf}
 use Rattle.host_reply.specs.declared.Reply.{Reply}
 use Rattle.host_reply.specs.Reply.{Replied}
 use Rattle.p6.specs.P6.{ppmLength}
 
-abbrev pub planRead : CallRead → (units l : List ℕ) → Memories → Plan
+abbrev pub planRead : ParsedCall → (units l : List ℕ) → Memories → Plan
 planRead NoCall us l ms = refuse 255 (view l)
 planRead (Is c) us l ms = planOn c us l (length (ms .panel)) (length (ms .store))
 

@@ -1,4 +1,4 @@
-// The bench under C names, for hosts in other languages: the record as numbers that the host keeps, a call as numbers, a text's
+// The device under C names, for hosts in other languages: the record as numbers that the host keeps, a call as numbers, a text's
 // units as a slice, two lent memories. A slice is a pointer and a length there. None of these functions asks anything of its
 // caller.
 ghost use mathlib.Core.Path.{_≡_};
@@ -6,8 +6,8 @@ ghost use Rattle.paint.specs.Memories.{memories};
 ghost use Rattle.plan.specs.Open.{Opened};
 ghost use Rattle.snapshot.specs.Snapshot.{rgba8888, ppm, Snapped};
 ghost use Rattle.host.specs.Host.{HostPerformed, pictureLength};
-use host_call::CallRead;
 use host_call::HostCall;
+use host_call::ParsedCall;
 use host_reply::Reply;
 use plan::Answer;
 use surface::MAX_SIDE;
@@ -15,7 +15,7 @@ use surface::MAX_SIDE;
 // The refusal of numbers that are no call.
 pub const NO_CALL: u32 = 255;
 
-// Opens a bench: `open::open`. The number with which it is refused, 0 if it is not.
+// Opens a device: `open::open`. The number with which it is refused, 0 if it is not.
 #[no_mangle]
 pub extern "C" fn ravinefork_open(
     numbers: &mut [u32],
@@ -41,8 +41,8 @@ pub extern "C" fn ravinefork_perform(
     ensures { λ r. ⌜ HostPerformed call (now (units .entry)) (now (numbers .entry)) (memories (now (panel .entry)) (now (store .entry))) r (now (numbers .exit)) (memories (now (panel .exit)) (now (store .exit))) ⌝ }
 {
     match host_call::call_of(call) {
-        CallRead::NoCall => host_reply::reply_of(Answer::Refused(NO_CALL)),
-        CallRead::Is(c) => {
+        ParsedCall::NoCall => host_reply::reply_of(Answer::Refused(NO_CALL)),
+        ParsedCall::Is(c) => {
             let answer = perform::perform(numbers, c, units, panel, store);
             host_reply::reply_of(answer)
         }

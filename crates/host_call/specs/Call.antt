@@ -5,8 +5,8 @@ use Rattle.plan.specs.declared.Area.{Area}
 use Rattle.plan.specs.declared.Point.{Point}
 use Rattle.plan.specs.declared.Call.the-variants.{CreateMemoryDc, CreateCompatibleBitmap, CreateSolidBrush, CreatePen, CreateFont, Delete, Remove, SelectInto, SetTextColor, SetTextAlign, SetBkColor, SetBkMode, PatternFill, Rectangle, Text, PanelFill, Resize, Blit}
 use Rattle.host_call.specs.declared.HostCall.{HostCall}
-use Rattle.host_call.specs.declared.CallRead.{CallRead}
-use Rattle.host_call.specs.declared.CallRead.the-variants.{NoCall, Is}
+use Rattle.host_call.specs.declared.ParsedCall.{ParsedCall}
+use Rattle.host_call.specs.declared.ParsedCall.the-variants.{NoCall, Is}
 
 abbrev pub areaOf : HostCall → Area
 areaOf c = record { x = c .x; y = c .y; w = c .w; h = c .h }
@@ -19,7 +19,7 @@ fromOf c = record { x = c .«src_x»; y = c .«src_y» }
 
 -- Calls have the numbers of call scripts. A background mode is 0 or 1, and a panel fill has no high bit set. Other numbers are no
 -- call.
-unfoldable pub callOf : HostCall → CallRead
+unfoldable pub callOf : HostCall → ParsedCall
 callOf c =
     cond (eqb (c .call) 1) (Is CreateMemoryDc) (
     cond (eqb (c .call) 2) (Is (CreateCompatibleBitmap (c .a) (c .b))) (

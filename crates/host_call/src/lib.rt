@@ -24,7 +24,7 @@ pub struct HostCall {
     pub src_y: i32,
 }
 
-pub enum CallRead {
+pub enum ParsedCall {
     NoCall,
     Is(Call),
 }
@@ -56,7 +56,7 @@ fn from_of(c: HostCall) -> Point
 }
 
 // The call that the numbers are.
-pub fn call_of(c: HostCall) -> CallRead
+pub fn call_of(c: HostCall) -> ParsedCall
     ensures { λ r. ⌜ r ≡ callOf c ⌝ }
 {
     let k = c.call;
@@ -64,68 +64,68 @@ pub fn call_of(c: HostCall) -> CallRead
     let at = at_of(c);
     let from = from_of(c);
     match k {
-        1 => CallRead::Is(Call::CreateMemoryDc),
-        2 => CallRead::Is(Call::CreateCompatibleBitmap {
+        1 => ParsedCall::Is(Call::CreateMemoryDc),
+        2 => ParsedCall::Is(Call::CreateCompatibleBitmap {
             width: c.a,
             height: c.b,
         }),
-        3 => CallRead::Is(Call::CreateSolidBrush(Colorref(c.a))),
-        4 => CallRead::Is(Call::CreatePen {
+        3 => ParsedCall::Is(Call::CreateSolidBrush(Colorref(c.a))),
+        4 => ParsedCall::Is(Call::CreatePen {
             color: Colorref(c.a),
             width: c.b,
         }),
-        5 => CallRead::Is(Call::CreateFont(c.h)),
-        6 => CallRead::Is(Call::Delete(c.a)),
-        7 => CallRead::Is(Call::Remove(c.a)),
-        8 => CallRead::Is(Call::SelectInto {
+        5 => ParsedCall::Is(Call::CreateFont(c.h)),
+        6 => ParsedCall::Is(Call::Delete(c.a)),
+        7 => ParsedCall::Is(Call::Remove(c.a)),
+        8 => ParsedCall::Is(Call::SelectInto {
             dc: c.dc,
             object: c.a,
         }),
-        9 => CallRead::Is(Call::SetTextColor {
+        9 => ParsedCall::Is(Call::SetTextColor {
             dc: c.dc,
             color: Colorref(c.a),
         }),
-        10 => CallRead::Is(Call::SetTextAlign {
+        10 => ParsedCall::Is(Call::SetTextAlign {
             dc: c.dc,
             align: c.a,
         }),
-        11 => CallRead::Is(Call::SetBkColor {
+        11 => ParsedCall::Is(Call::SetBkColor {
             dc: c.dc,
             color: Colorref(c.a),
         }),
         12 => {
             if c.a > 1 {
-                return CallRead::NoCall;
+                return ParsedCall::NoCall;
             }
-            CallRead::Is(Call::SetBkMode {
+            ParsedCall::Is(Call::SetBkMode {
                 dc: c.dc,
                 transparent: c.a == 1,
             })
         }
-        13 => CallRead::Is(Call::PatternFill {
+        13 => ParsedCall::Is(Call::PatternFill {
             dc: c.dc,
             area,
             rop: c.a,
         }),
-        14 => CallRead::Is(Call::Rectangle { dc: c.dc, area }),
-        15 => CallRead::Is(Call::Text { dc: c.dc, at }),
+        14 => ParsedCall::Is(Call::Rectangle { dc: c.dc, area }),
+        15 => ParsedCall::Is(Call::Text { dc: c.dc, at }),
         16 => {
             if c.a > 65_535 {
-                return CallRead::NoCall;
+                return ParsedCall::NoCall;
             }
-            CallRead::Is(Call::PanelFill(Rgb565(c.a as u16)))
+            ParsedCall::Is(Call::PanelFill(Rgb565(c.a as u16)))
         }
-        17 => CallRead::Is(Call::Resize {
+        17 => ParsedCall::Is(Call::Resize {
             width: c.a,
             height: c.b,
         }),
-        18 => CallRead::Is(Call::Blit {
+        18 => ParsedCall::Is(Call::Blit {
             dc: c.dc,
             area,
             src: c.src,
             from,
             rop: c.a,
         }),
-        _ => CallRead::NoCall,
+        _ => ParsedCall::NoCall,
     }
 }

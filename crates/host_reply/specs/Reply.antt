@@ -5,7 +5,7 @@ use mathlib.Core.Path.{_≡_}
 use Prim.Native.Nat.{ℕ}
 use lib.ListN.{replicate}
 use Rattle.numbers.specs.Layout.{objectSize}
-use Rattle.numbers.specs.Block.{bit, ObjectCoded}
+use Rattle.numbers.specs.Block.{flagNumber, ObjectCoded}
 use Rattle.plan.specs.Answer.{Object, none, some, Parts}
 use Rattle.host_reply.specs.declared.Reply.{Reply}
 
@@ -16,11 +16,11 @@ ObjectReplied (some o) kind l = ObjectCoded o kind l
 
 -- a reply without an object
 abbrev pub plainReply : (refusal value : ℕ) → Bool → Reply
-plainReply n v f = record { refusal = n; value = v; flag = bit f; kind = 5; fields = replicate objectSize 0 }
+plainReply n v f = record { refusal = n; value = v; flag = flagNumber f; kind = 5; fields = replicate objectSize 0 }
 
 -- A reply holds an answer's parts.
 pub record Replied (a : Parts) (r : Reply) : Type 0 where
   pub refusal : r .refusal ≡ a .number
   pub value : r .value ≡ a .value
-  pub flag : r .flag ≡ bit (a .flag)
+  pub flag : r .flag ≡ flagNumber (a .flag)
   pub object : ObjectReplied (a .object) (r .kind) (r .fields)

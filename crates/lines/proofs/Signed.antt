@@ -9,10 +9,10 @@ use lib.Signed.{ltZ, nonNeg}
 use mir.Syntax.{w32, w64}
 use mir.Val.{Fits, SFits}
 use borrow.Author.Tests.{ltb-true}
-use Rattle.laws.proofs.Integer.{difference, abs-positive, not-negative, tested-negative, tested-positive}
-use Rattle.laws.proofs.Machine.{range32, range64, fits64, held32, held64, stored32, stored64, cast-fits, cast-held}
-use Rattle.laws.specs.Integer.{positive}
-use Rattle.laws.specs.Inner.{negative}
+use Rattle.arithmetic.proofs.Integer.{difference, abs-positive, not-negative, tested-negative, tested-positive}
+use Rattle.arithmetic.proofs.Machine.{range32, range64, fits64, held32, held64, stored32, stored64, cast-fits, cast-held}
+use Rattle.arithmetic.specs.Integer.{positive}
+use Rattle.arithmetic.specs.Inner.{negative}
 use Rattle.lines.specs.Lines.{sign}
 
 -- a number that is not negative goes into an unsigned word

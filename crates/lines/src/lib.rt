@@ -7,7 +7,7 @@ ghost use lib.ListN.{length};
 ghost use Rattle.io.specs.Digits.{digits};
 ghost use Rattle.lines.specs.Lines.{Added, DecimalAdded, SignedAdded};
 
-// The first len bytes are the line so far. The longest, of a bench's counters, can have 125 with its end.
+// The first len bytes are the line so far. The longest, of a device's counters, can have 125 with its end.
 pub struct Line {
     pub bytes: [u8; 160],
     pub len: usize,

@@ -18,7 +18,7 @@ use Rattle.gdi.specs.Lookup.{scan, findOf, dcAt, dcOf, kindAt, kindOf}
 use Rattle.gdi.proofs.Scan.{start}
 use Rattle.gdi.proofs.Lookup.{dc-screen, dc-created}
 use Rattle.numbers.specs.Layout.{dcSize, objectSize, slotSize, countPlace, screenPlace, slotPlace, kindPlace, objectPlace}
-use Rattle.numbers.specs.Block.{at, objectOf, dcOf as dcNumbers}
+use Rattle.numbers.specs.Block.{at, objectOf, dcFields as dcNumbers}
 use Rattle.numbers.specs.View.{view, isRecord}
 use Rattle.numbers.proofs.Seen.{count-seen, found-in, screen-seen, record-length, record-count, object-seen, object-dc, by-kind}
 

@@ -1,3 +1,3 @@
 pub mod Found
-pub mod Spotted
-pub mod Stores
+pub mod HasDc
+pub mod Updates

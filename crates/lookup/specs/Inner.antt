@@ -9,6 +9,6 @@ use Rattle.gdi.specs.declared.DcFound.the-variants.{Is}
 use Rattle.gdi.specs.Lookup.{dcOf}
 
 -- the DC h stands at the spot p
-pub record Spotted (b : GdiState) (h : ℕ) (p : Spot) : Type 0 where
+pub record HasDc (b : GdiState) (h : ℕ) (p : Spot) : Type 0 where
   pub dc : Dc
   pub found : dcOf b h ≡ Is p dc

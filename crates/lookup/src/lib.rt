@@ -5,11 +5,11 @@ ghost use Prim.Native.Nat.{_+_, _≤_};
 ghost use lib.ListN.{length};
 ghost use Rattle.words.specs.Parts.{part};
 ghost use Rattle.gdi.specs.Lookup.{findOf, dcOf, kindAt, kindOf};
-ghost use Rattle.gdi.specs.Updates.{storeOf};
+ghost use Rattle.gdi.specs.Updates.{withDc};
 ghost use Rattle.numbers.specs.Layout.{objectSize, slotSize, kindPlace, objectPlace};
 ghost use Rattle.numbers.specs.Block.{at, objectOf};
-ghost use Rattle.numbers.specs.View.{view, isRecord, Stored};
-ghost use Rattle.lookup.specs.Inner.{Spotted};
+ghost use Rattle.numbers.specs.View.{view, isRecord, Updated};
+ghost use Rattle.lookup.specs.Inner.{HasDc};
 use color::Colorref;
 use gdi::Dc;
 use gdi::DcFound;
@@ -24,14 +24,14 @@ use numbers::SLOT;
 use numbers::SLOTS;
 
 // The slot of the created object of this handle.
-pub fn find(l: &[u32], handle: u32) -> Found
-    requires { ⌜ isRecord (now l) ≡ true ⌝ }
-    ensures { λ r. ⌜ r ≡ findOf (view (now (l .entry))) handle ⌝ }
+pub fn find(numbers: &[u32], handle: u32) -> Found
+    requires { ⌜ isRecord (now numbers) ≡ true ⌝ }
+    ensures { λ r. ⌜ r ≡ findOf (view (now (numbers .entry))) handle ⌝ }
 {
-    let n = l[COUNT] as usize;
+    let n = numbers[COUNT] as usize;
     let mut i: usize = 0;
     while i < n {
-        if l[SLOTS + SLOT * i] == handle {
+        if numbers[SLOTS + SLOT * i] == handle {
             return Found::At(i);
         }
         i += 1;
@@ -40,23 +40,23 @@ pub fn find(l: &[u32], handle: u32) -> Found
 }
 
 // The DC of this handle.
-pub fn find_dc(l: &[u32], handle: u32) -> DcFound
-    requires { ⌜ isRecord (now l) ≡ true ⌝ }
-    ensures { λ r. ⌜ r ≡ dcOf (view (now (l .entry))) handle ⌝ }
+pub fn find_dc(numbers: &[u32], handle: u32) -> DcFound
+    requires { ⌜ isRecord (now numbers) ≡ true ⌝ }
+    ensures { λ r. ⌜ r ≡ dcOf (view (now (numbers .entry))) handle ⌝ }
 {
     if handle == GDI_SCREEN_DC {
-        let d = numbers::dc_of(&l[numbers::SCREEN..SLOTS]);
+        let d = numbers::dc_of(&numbers[numbers::SCREEN..SLOTS]);
         return DcFound::Is(Spot::Screen, d);
     }
-    match find(l, handle) {
+    match find(numbers, handle) {
         Found::At(i) => {
             let p = SLOTS + SLOT * i;
-            if l[p + KIND] != 0 {
+            if numbers[p + KIND] != 0 {
                 return DcFound::Absent;
             }
             let first = p + OBJECT;
             let end = p + SLOT;
-            let d = numbers::dc_of(&l[first..end]);
+            let d = numbers::dc_of(&numbers[first..end]);
             DcFound::Is(Spot::Created(i), d)
         }
         Found::Nothing => DcFound::Absent,
@@ -64,45 +64,45 @@ pub fn find_dc(l: &[u32], handle: u32) -> DcFound
 }
 
 // The kind of the object whose slot stands from number p on, with the colour that a selection copies.
-fn kind_at(l: &[u32], p: usize) -> Kind
-    requires { ⌜ p + slotSize ≤ length (now l) ⌝ }
-    ensures { λ r. ⌜ r ≡ kindAt (objectOf (at (now (l .entry)) (p + kindPlace)) (part (now (l .entry)) (p + objectPlace) objectSize)) ⌝ }
+fn kind_at(numbers: &[u32], p: usize) -> Kind
+    requires { ⌜ p + slotSize ≤ length (now numbers) ⌝ }
+    ensures { λ r. ⌜ r ≡ kindAt (objectOf (at (now (numbers .entry)) (p + kindPlace)) (part (now (numbers .entry)) (p + objectPlace) objectSize)) ⌝ }
 {
-    match l[p + KIND] {
+    match numbers[p + KIND] {
         0 => Kind::Other,
         1 => Kind::Bitmap,
-        2 => Kind::Brush(Colorref(l[p + OBJECT])),
-        3 => Kind::Pen(Colorref(l[p + OBJECT])),
+        2 => Kind::Brush(Colorref(numbers[p + OBJECT])),
+        3 => Kind::Pen(Colorref(numbers[p + OBJECT])),
         _ => Kind::Font,
     }
 }
 
 // What a handle names, created or stock.
-pub fn find_kind(l: &[u32], handle: u32) -> Kind
-    requires { ⌜ isRecord (now l) ≡ true ⌝ }
-    ensures { λ r. ⌜ r ≡ kindOf (view (now (l .entry))) handle ⌝ }
+pub fn find_kind(numbers: &[u32], handle: u32) -> Kind
+    requires { ⌜ isRecord (now numbers) ≡ true ⌝ }
+    ensures { λ r. ⌜ r ≡ kindOf (view (now (numbers .entry))) handle ⌝ }
 {
-    match find(l, handle) {
-        Found::At(i) => { kind_at(l, SLOTS + SLOT * i) }
+    match find(numbers, handle) {
+        Found::At(i) => { kind_at(numbers, SLOTS + SLOT * i) }
         Found::Nothing => gdi::stock_kind(handle),
     }
 }
 
 // Puts d as the DC of this handle, which stands at spot. Only its numbers are written.
-pub fn store_dc(l: &mut [u32], handle: u32, spot: Spot, d: Dc)
-    requires { ⌜ isRecord (now l) ≡ true ⌝ }
-    requires { ⌜ Spotted (view (now l)) handle spot ⌝ }
-    ensures { λ _. ⌜ Stored (now (l .entry)) (storeOf (view (now (l .entry))) handle spot d) (now (l .exit)) ⌝ }
+pub fn update_dc(numbers: &mut [u32], handle: u32, spot: Spot, d: Dc)
+    requires { ⌜ isRecord (now numbers) ≡ true ⌝ }
+    requires { ⌜ HasDc (view (now numbers)) handle spot ⌝ }
+    ensures { λ _. ⌜ Updated (now (numbers .entry)) (withDc (view (now (numbers .entry))) handle spot d) (now (numbers .exit)) ⌝ }
 {
     match spot {
         Spot::Screen => {
-            encode::put_dc(&mut l[numbers::SCREEN..SLOTS], d);
+            encode::put_dc(&mut numbers[numbers::SCREEN..SLOTS], d);
         }
         Spot::Created(i) => {
             let p = SLOTS + SLOT * i;
             let first = p + OBJECT;
             let end = p + SLOT;
-            encode::put_dc(&mut l[first..end], d);
+            encode::put_dc(&mut numbers[first..end], d);
         }
     }
 }

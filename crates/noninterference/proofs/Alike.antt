@@ -1,13 +1,13 @@
--- Every call keeps unmarked pixels alike, by the shape of its plan. Assumes nothing.
+-- Every call keeps untainted pixels alike, by the shape of its plan. Assumes nothing.
 use mathlib.Core.List.{List, [], _∷_}
 use mathlib.Core.Path.{sym, subst}
 use Rattle.gdi.specs.declared.GdiState.{GdiState}
 use Rattle.place.proofs.Same.{Still}
 use Rattle.paint.specs.Memories.{Memories}
 use Rattle.paint.specs.Paint.{Paint, after}
-use Rattle.paint.specs.Marks.{Marks, marked}
-use Rattle.paint.proofs.Alike.{Alike, Looks, same-places}
-use Rattle.paint.proofs.Draws.{drawn-looks, draw-alike}
+use Rattle.paint.specs.Taint.{Taint, tainted}
+use Rattle.paint.proofs.Alike.{Alike, ReadyWith, same-places}
+use Rattle.paint.proofs.Draws.{drawn-ready, draw-alike}
 use Rattle.paint.proofs.Blanks.{blank-alike}
 use Rattle.paint.proofs.Closed.{close-alike}
 use Rattle.plan.specs.Plan.{Plan}
@@ -16,29 +16,29 @@ use Rattle.plan.proofs.Strokes.{dirtied-by-still}
 use Rattle.execution.proofs.Shape.{AllSourced, Shape, record-only, strokes, blanks, deletion}
 use Rattle.execution.proofs.Steady.{range-fits}
 
--- These paints, from the record b to the record b′, keep unmarked pixels alike.
+-- These paints, from the record b to the record b′, keep untainted pixels alike.
 pub record KeepsAlike (b : GdiState) (ps : List Paint) (b′ : GdiState) : Type 1 where
-  pub alike : (m : Marks) (ms ns : Memories) → Looks b ms → Looks b ns → Alike b m ms ns → Alike b′ (marked ps m) (after b ps ms) (after b ps ns)
+  pub alike : (m : Taint) (ms ns : Memories) → ReadyWith b ms → ReadyWith b ns → Alike b m ms ns → Alike b′ (tainted ps m) (after b ps ms) (after b ps ns)
 
 -- no paint, and every surface in its place
 still-alike : {b b′ : GdiState} → Still b b′ → KeepsAlike b [] b′
-unfolding after marked
+unfolding after tainted
 still-alike {b} {b′} s = record { alike = λ m ms ns lm ln like. same-places b b′ (s .places) m ms ns like }
 
 -- drawings
 strokes-alike : {b b′ : GdiState} (ss : List Stroke) → AllSourced b ss → Still b b′ → KeepsAlike b (paintsOf ss) b′
-unfolding after marked paintsOf
+unfolding after tainted paintsOf
 strokes-alike [] i s = still-alike s
 strokes-alike {b} (t ∷ ss) (i, is) s =
     let d = t .drawing in
     let k = strokes-alike ss is s in
-    record { alike = λ m ms ns lm ln like. k .alike _ _ _ (drawn-looks b d ms lm) (drawn-looks b d ns ln) (draw-alike b d i m ms ns lm ln like) }
+    record { alike = λ m ms ns lm ln like. k .alike _ _ _ (drawn-ready b d ms lm) (drawn-ready b d ns ln) (draw-alike b d i m ms ns lm ln like) }
 
 pub shape-alike : {b : GdiState} {p : Plan} → Shape b p → KeepsAlike b (p .paint) (p .outcome .state)
 shape-alike {b} {p} (record-only u) = subst (λ (ps : List Paint). KeepsAlike b ps (p .outcome .state)) (sym (u .paint)) (still-alike (u .still))
 shape-alike {b} (strokes ss a i) = strokes-alike ss i (dirtied-by-still ss b)
 shape-alike {b} (blanks b′ a k p n clears x) =
-    unfold after marked in
+    unfold after tainted in
     record {
       alike = λ m ms ns lm ln like.
           blank-alike k p n clears b b′ (x .surfaces (lm .sound)) b m ms ns (range-fits b ms lm k p n (x .fits)) (range-fits b ns ln k p n (x .fits)) like;

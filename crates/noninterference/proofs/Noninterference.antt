@@ -5,13 +5,13 @@ use mathlib.Core.Path.{_≡_, refl, sym, _∙_, ap₂, subst₂, subst₃}
 use Prim.Native.Nat.{ℕ}
 use lib.Dec.{eqb}
 use borrow.Author.Tests.{eqb-true, eq-eqb}
-use Rattle.laws.proofs.Test.{both, together}
+use Rattle.arithmetic.proofs.Test.{both, together}
 use Rattle.gdi.specs.declared.GdiState.{GdiState}
-use Rattle.ready.proofs.Ready.{ready, looks}
+use Rattle.ready.proofs.Ready.{ready, ready-accepts}
 use Rattle.paint.specs.Memories.{Memories}
 use Rattle.paint.specs.Paint.{after}
-use Rattle.paint.specs.Marks.{Marks, marked}
-use Rattle.paint.proofs.Alike.{Looks}
+use Rattle.paint.specs.Taint.{Taint, tainted}
+use Rattle.paint.proofs.Alike.{ReadyWith}
 use Rattle.plan.specs.declared.Call.{Call}
 use Rattle.plan.specs.Plan.{Plan, refuse}
 use Rattle.plan.specs.Calls.{act, plan, planOf}
@@ -19,29 +19,29 @@ use Rattle.execution.specs.Execution.{Device, device, refusesAll, Invocation, p
 use Rattle.execution.proofs.Shape.{Shape, act-shape}
 use Rattle.execution.proofs.Steady.{shape-steady}
 use Rattle.execution.proofs.Steps.{step-kept, run-kept, run-refused}
-use Rattle.noninterference.specs.Claim.{Agree, marksAfter, marksOf, Noninterference}
+use Rattle.noninterference.specs.Claim.{Agree, taintAfter, taintOn, Noninterference}
 use Rattle.noninterference.proofs.Alike.{shape-alike}
 
 -- two devices of one record agree after a plan
-abbrev AgreeAfter : Plan → Marks → GdiState → (ms ns : Memories) → Type 0
-AgreeAfter p m b ms ns = Agree (marked (p .paint) m) (device (p .outcome .state) (after b (p .paint) ms)) (device (p .outcome .state) (after b (p .paint) ns))
+abbrev AgreeAfter : Plan → Taint → GdiState → (ms ns : Memories) → Type 0
+AgreeAfter p m b ms ns = Agree (tainted (p .paint) m) (device (p .outcome .state) (after b (p .paint) ms)) (device (p .outcome .state) (after b (p .paint) ns))
 
 -- a call on two devices of one record that agree: refused, looked at, and either
-module _ (m : Marks) (b : GdiState) (ms ns : Memories) (a : Agree m (device b ms) (device b ns)) where
-  refused-agree : Agree (marked [] m) (device b (after b [] ms)) (device b (after b [] ns))
-  unfolding after marked
+module _ (m : Taint) (b : GdiState) (ms ns : Memories) (a : Agree m (device b ms) (device b ns)) where
+  refused-agree : Agree (tainted [] m) (device b (after b [] ms)) (device b (after b [] ns))
+  unfolding after tainted
   refused-agree = a
 
-  looked-agree : Looks b ms → (p : Plan) → Shape b p → AgreeAfter p m b ms ns
+  looked-agree : ReadyWith b ms → (p : Plan) → Shape b p → AgreeAfter p m b ms ns
   looked-agree l p shape =
       let s = shape-steady shape in
       let still : Bool = eqb (refusesAll (device (p .outcome .state) (after b (p .paint) ms))) 0 in
-      let l′ : Looks b ns = record { sound = l .sound; panel = sym (a .panels) ∙ l .panel; store = sym (a .stores) ∙ l .store } in
+      let l′ : ReadyWith b ns = record { sound = l .sound; panel = sym (a .panels) ∙ l .panel; store = sym (a .stores) ∙ l .store } in
       record {
         states = refl;
         panels = s .panel ms l ∙ a .panels ∙ sym (s .panel ns l′);
         stores = s .store ms l ∙ a .stores ∙ sym (s .store ns l′);
-        pixels = λ u x y i n. shape-alike shape .alike m ms ns l l′ (λ u x y i n. a .pixels u x y (together (eq-eqb _ _ (looks l)) i) n) u x y (both still _ i .1) n;
+        pixels = λ u x y i n. shape-alike shape .alike m ms ns l l′ (λ u x y i n. a .pixels u x y (together (eq-eqb _ _ (ready-accepts l)) i) n) u x y (both still _ i .1) n;
       }
 
   plan-agree : (c : Call) (us : List ℕ) → AgreeAfter (planOf c us b ms) m b ms ns
@@ -53,22 +53,22 @@ module _ (m : Marks) (b : GdiState) (ms ns : Memories) (a : Agree m (device b ms
       by false e = refused-agree
 
 -- a call on any two devices that agree: equal answers, and they agree after it
-step-agree : (c : Invocation) (m : Marks) (s t : Device) → Agree m s t → (answer c s ≡ answer c t) × Agree (marked (planFor c s .paint) m) (step c s) (step c t)
+step-agree : (c : Invocation) (m : Taint) (s t : Device) → Agree m s t → (answer c s ≡ answer c t) × Agree (tainted (planFor c s .paint) m) (step c s) (step c t)
 step-agree c m s t a =
     subst₃ (λ (b : GdiState) (n k : ℕ). Agree m s (device b (t .memories)) → (answer c s ≡ plan (c .call) (c .units) b n k .outcome)
-    × Agree (marked (planFor c s .paint) m) (step c s) (device (plan (c .call) (c .units) b n k .outcome .state) (after b (plan (c .call) (c .units) b n k .paint) (t .memories))))
+    × Agree (tainted (planFor c s .paint) m) (step c s) (device (plan (c .call) (c .units) b n k .outcome .state) (after b (plan (c .call) (c .units) b n k .paint) (t .memories))))
     (a .states) (a .panels) (a .stores)
     (λ h. (refl, plan-agree m (s .state) (s .memories) (t .memories) h (c .call) (c .units))) a
 
 -- a list of calls
-run-agree : (cs : List Invocation) (m : Marks) (s t : Device) → Agree m s t → (run cs s .0 ≡ run cs t .0) × Agree (marksOf cs s m) (run cs s .1) (run cs t .1)
-unfolding run marksAfter
+run-agree : (cs : List Invocation) (m : Taint) (s t : Device) → Agree m s t → (run cs s .0 ≡ run cs t .0) × Agree (taintOn cs s m) (run cs s .1) (run cs t .1)
+unfolding run taintAfter
 run-agree [] m s t a = (refl, a)
 run-agree (c ∷ cs) m s t a =
     let (e, a′) = step-agree c m s t a in
-    let (es, z) = run-agree cs (marked (planFor c s .paint) m) (step c s) (step c t) a′ in (
+    let (es, z) = run-agree cs (tainted (planFor c s .paint) m) (step c s) (step c t) a′ in (
       ap₂ _∷_ e es,
-      subst₂ (λ (n k : ℕ). Agree (marksAfter cs (answer c s .state) n k (marked (planFor c s .paint) m)) (run cs (step c s) .1) (run cs (step c t) .1))
+      subst₂ (λ (n k : ℕ). Agree (taintAfter cs (answer c s .state) n k (tainted (planFor c s .paint) m)) (run cs (step c s) .1) (run cs (step c t) .1))
           (step-kept c s .panel) (step-kept c s .store) z,
     )
 

@@ -8,13 +8,13 @@ use Rattle.gdi.specs.declared.GdiState.{GdiState}
 use Rattle.place.specs.declared.SurfaceId.{SurfaceId}
 use Rattle.place.specs.Place.{whereIs}
 use Rattle.paint.specs.Memories.{colourAt}
-use Rattle.paint.specs.Marks.{Marks, marked}
+use Rattle.paint.specs.Taint.{Taint, tainted}
 use Rattle.plan.specs.Calls.{plan}
 use Rattle.execution.specs.Execution.{Device, refusesAll, isPixel, Invocation, run}
 
--- Two devices agree but for marked pixels: equal records, lent memories of equal lengths, and equal pixels except where
--- marked.
-pub record Agree (m : Marks) (s t : Device) : Type 0 where
+-- Two devices agree but for tainted pixels: equal records, lent memories of equal lengths, and equal pixels except where
+-- tainted.
+pub record Agree (m : Taint) (s t : Device) : Type 0 where
   pub states : s .state ≡ t .state
   pub panels : length (s .memories .panel) ≡ length (t .memories .panel)
   pub stores : length (s .memories .store) ≡ length (t .memories .store)
@@ -22,20 +22,20 @@ pub record Agree (m : Marks) (s t : Device) : Type 0 where
       → colourAt (s .memories) (whereIs (s .state) u) x y ≡ colourAt (t .memories) (whereIs (t .state) u) x y
 
 -- the marks after a list of calls: from the calls, the record and the lengths, never from a pixel's colour
-unfoldable pub marksAfter : List Invocation → GdiState → (panel-len store-len : ℕ) → Marks → Marks
-marksAfter [] b n k m = m
-marksAfter (c ∷ cs) b n k m =
+unfoldable pub taintAfter : List Invocation → GdiState → (panel-len store-len : ℕ) → Taint → Taint
+taintAfter [] b n k m = m
+taintAfter (c ∷ cs) b n k m =
     let p = plan (c .call) (c .units) b n k in
-    marksAfter cs (p .outcome .state) n k (marked (p .paint) m)
+    taintAfter cs (p .outcome .state) n k (tainted (p .paint) m)
 
-abbrev pub marksOf : List Invocation → Device → Marks → Marks
-marksOf cs s m = marksAfter cs (s .state) (length (s .memories .panel)) (length (s .memories .store)) m
+abbrev pub taintOn : List Invocation → Device → Taint → Taint
+taintOn cs s m = taintAfter cs (s .state) (length (s .memories .panel)) (length (s .memories .store)) m
 
 -- From any record and any memories: all answers are equal, and afterwards so are records, counters, dirty marks and every
--- pixel left unmarked. A ready device is ready after every list of calls, so that the pixels do not go away. One that refuses every
+-- pixel left untainted. A ready device is ready after every list of calls, so that the pixels do not go away. One that refuses every
 -- call keeps its record and every byte.
 pub record Noninterference : Type 1 where
-  pub answers : (cs : List Invocation) (m : Marks) (s t : Device) → Agree m s t → run cs s .0 ≡ run cs t .0
-  pub pixels : (cs : List Invocation) (m : Marks) (s t : Device) → Agree m s t → Agree (marksOf cs s m) (run cs s .1) (run cs t .1)
+  pub answers : (cs : List Invocation) (m : Taint) (s t : Device) → Agree m s t → run cs s .0 ≡ run cs t .0
+  pub pixels : (cs : List Invocation) (m : Taint) (s t : Device) → Agree m s t → Agree (taintOn cs s m) (run cs s .1) (run cs t .1)
   pub stays-ready : (cs : List Invocation) (s : Device) → refusesAll s ≡ 0 → refusesAll (run cs s .1) ≡ 0
   pub refuses : (cs : List Invocation) (s : Device) → (refusesAll s ≡ 0 → ⊥) → run cs s .1 ≡ s

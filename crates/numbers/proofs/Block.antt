@@ -15,7 +15,7 @@ use Rattle.gdi.specs.declared.SelectedBitmap.the-variants.{Unset, Chosen}
 use Rattle.gdi.specs.declared.Dc.{Dc}
 use Rattle.gdi.specs.declared.GdiObject.the-variants.{Dc as DcOf}
 use Rattle.gdi.specs.declared.Slot.{Slot}
-use Rattle.numbers.specs.Block.{flagOf, isFlag, bit, dcOf, isDc, objectOf, isObject, slotOf, isSlot, ObjectCoded}
+use Rattle.numbers.specs.Block.{flagOf, isFlag, flagNumber, dcFields, isDc, objectOf, isObject, slotOf, isSlot, ObjectCoded}
 
 -- the number of a surface: 0 the screen, 1 memory
 abbrev pub surfaceNumber : DcSurface → ℕ
@@ -34,7 +34,7 @@ bitmapNumber (Chosen h) = h
 -- Numbers that are a DC, a slot; and which one.
 pub record DcCoded (d : Dc) (l : List ℕ) : Type 0 where
   pub is-dc : isDc l ≡ true
-  pub same : dcOf l ≡ d
+  pub same : dcFields l ≡ d
 
 pub record SlotCoded (s : Slot) (l : List ℕ) : Type 0 where
   pub is-slot : isSlot l ≡ true
@@ -52,11 +52,11 @@ all-stored l vs h =
     sets-eq vs l 0 (omega arith) ∙ rw (e, drop-length l, append-nil vs)
 
 -- a flag as a number is one, and comes back
-pub flag-back : (f : Bool) → flagOf (bit f) ≡ f
+pub flag-back : (f : Bool) → flagOf (flagNumber f) ≡ f
 flag-back true = refl
 flag-back false = refl
 
-pub flag-flag : (f : Bool) → isFlag (bit f) ≡ true
+pub flag-flag : (f : Bool) → isFlag (flagNumber f) ≡ true
 flag-flag true = refl
 flag-flag false = refl
 
@@ -64,7 +64,7 @@ flag-flag false = refl
 abbrev pub dcNumbers : Dc → List ℕ
 dcNumbers d =
     surfaceNumber (d .surface) ∷ presentNumber (d .«selected_bitmap») ∷ bitmapNumber (d .«selected_bitmap») ∷ d .«selected_brush» ∷ d .«selected_pen»
-    ∷ d .«selected_font» ∷ d .«brush_color» .0 ∷ d .«pen_color» .0 ∷ d .«text_color» .0 ∷ d .«text_align» ∷ d .«bk_color» .0 ∷ bit (d .«bk_transparent») ∷ []
+    ∷ d .«selected_font» ∷ d .«brush_color» .0 ∷ d .«pen_color» .0 ∷ d .«text_color» .0 ∷ d .«text_align» ∷ d .«bk_color» .0 ∷ flagNumber (d .«bk_transparent») ∷ []
 
 -- a DC is an object of kind 0
 pub dc-object : {d : Dc} {l : List ℕ} → DcCoded d l → ObjectCoded (DcOf d) 0 l

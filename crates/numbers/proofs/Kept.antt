@@ -10,7 +10,7 @@ use lib.Dec.{ltb}
 use lib.ListN.{length, drop, set, length-take, length-drop, length-set}
 use lib.Seq.{ext-getD, getD-drop, getD-set-other}
 use borrow.Author.Tests.{eq-eqb, le-leb, lt-ltb}
-use Rattle.laws.proofs.Test.{together, all-of}
+use Rattle.arithmetic.proofs.Test.{together, all-of}
 use Rattle.words.specs.Parts.{part, withPart}
 use Rattle.words.proofs.Parts.{length-with, with-before, with-behind}
 use Rattle.gdi.specs.declared.Slot.{Slot}
@@ -18,7 +18,7 @@ use Rattle.gdi.specs.Record.{vacantSlot}
 use Rattle.gdi.specs.Updates.{withObjects}
 use Rattle.numbers.specs.Layout.{dcSize, slotSize, recordSize, nextHandlePlace, stockDirtyPlace, countPlace, screenPlace, slotsPlace, slotPlace}
 use Rattle.numbers.specs.Block.{at, isDc, slotOf, isSlot}
-use Rattle.numbers.specs.View.{slotIn, tableOf, view, isRecord, Stored}
+use Rattle.numbers.specs.View.{slotIn, slotTable, view, isRecord, Updated}
 use Rattle.numbers.proofs.Block.{SlotCoded}
 use Rattle.numbers.proofs.Record.{parts}
 use Rattle.numbers.proofs.Seen.{part-at}
@@ -26,8 +26,8 @@ use Rattle.numbers.proofs.Updates.{objects-seen}
 use Rattle.numbers.proofs.View.{table-same, table-set}
 
 -- numbers that are a record are it
-pub stored-same : {l : List ℕ} → isRecord l ≡ true → Stored l (view l) l
-stored-same r = record { is-record = r; same = refl; rest = refl }
+pub updated-same : {l : List ℕ} → isRecord l ≡ true → Updated l (view l) l
+updated-same r = record { is-record = r; same = refl; rest = refl }
 
 -- all but the n numbers from p on are kept
 pub record Kept (l : List ℕ) (p n : ℕ) (l′ : List ℕ) : Type 0 where
@@ -87,7 +87,7 @@ module _ (l l′ : List ℕ) (r : isRecord l ≡ true) where
     slots-kept : (j : ℕ) → part l′ (slotPlace j) slotSize ≡ part l (slotPlace j) slotSize
     slots-kept j = part-kept kept (slotPlace j) slotSize (λ k a b c d. omega arith)
 
-    pub table-kept : tableOf l′ (at l′ countPlace) ≡ tableOf l (at l countPlace)
+    pub table-kept : slotTable l′ (at l′ countPlace) ≡ slotTable l (at l countPlace)
     table-kept = table-same (slotIn l′ (at l′ countPlace)) (slotIn l (at l countPlace)) (λ j lt. slot-same l l′ (at l countPlace) (at l′ countPlace) j count (slots-kept j))
 
     pub front-record : at l′ stockDirtyPlace ≤ 1 → isDc (part l′ screenPlace dcSize) ≡ true → isRecord l′ ≡ true
@@ -110,11 +110,11 @@ module _ (l l′ : List ℕ) (r : isRecord l ≡ true) where
     there : slotIn l′ (at l′ countPlace) i ≡ s
     there = ap (λ (t : Bool). cond t (slotOf (part l′ (slotPlace i) slotSize)) vacantSlot) (lt-ltb i (at l′ countPlace) (omega (arith, number countPlace (omega arith)))) ∙ coded .same
 
-    table : tableOf l′ (at l′ countPlace) ≡ set (tableOf l (at l countPlace)) i s
+    table : slotTable l′ (at l′ countPlace) ≡ set (slotTable l (at l countPlace)) i s
     table =
         sym (table-set (slotIn l (at l countPlace)) (slotIn l′ (at l′ countPlace)) i (omega (arith, parts l r .few))
         (λ j h ne. sym (slot-same l l′ (at l countPlace) (at l′ countPlace) j (number countPlace (omega arith)) (other j ne))))
-        ∙ ap (λ (x : Slot). set (tableOf l (at l countPlace)) i x) there
+        ∙ ap (λ (x : Slot). set (slotTable l (at l countPlace)) i x) there
 
     slots : (j : ℕ) → j < at l countPlace → Dec (j ≡ i) → isSlot (part l′ (slotPlace j) slotSize) ≡ true
     slots j h (yes e) = rw e (coded .is-slot)
@@ -129,8 +129,8 @@ module _ (l l′ : List ℕ) (r : isRecord l ≡ true) where
     unfolding view
     rest = tail-kept kept (slotPlace (at l countPlace)) (omega arith)
 
-    pub slot-stored : Stored l (withObjects (view l) (view l .«next_handle») (view l .count) (set (view l .objects) i s)) l′
-    slot-stored =
+    pub slot-updated : Updated l (withObjects (view l) (view l .«next_handle») (view l .count) (set (view l .objects) i s)) l′
+    slot-updated =
         record {
           is-record = again (kept .long) (omega (arith, number stockDirtyPlace (omega arith), parts l r .flag)) (number countPlace (omega arith)) (ap isDc screen ∙ parts l r .screen) (λ j h. slots j h (ℕ-discrete j i));
           same = seen;

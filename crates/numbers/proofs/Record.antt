@@ -6,8 +6,8 @@ use Prim.Native.Nat.{ℕ, _≤_, _<_}
 use lib.Dec.{eqb, leb}
 use lib.ListN.{length}
 use borrow.Author.Tests.{eqb-true, leb-true, eq-eqb, le-leb}
-use Rattle.laws.specs.Test.{allBelow}
-use Rattle.laws.proofs.Test.{both, each}
+use Rattle.arithmetic.specs.Test.{allBelow}
+use Rattle.arithmetic.proofs.Test.{both, each}
 use Rattle.words.specs.Parts.{part}
 use Rattle.numbers.specs.Layout.{dcSize, slotSize, recordSize, stockDirtyPlace, countPlace, screenPlace, slotPlace}
 use Rattle.numbers.specs.Block.{at, isFlag, isDc, isSlot}

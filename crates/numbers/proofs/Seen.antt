@@ -19,7 +19,7 @@ use Rattle.gdi.specs.declared.Found.the-variants.{At}
 use Rattle.gdi.specs.Lookup.{handleAt, objectAt, findOf}
 use Rattle.gdi.proofs.Scan.{found-count}
 use Rattle.numbers.specs.Layout.{dcSize, objectSize, slotSize, recordSize, panelLenPlace, storeLenPlace, widthPlace, heightPlace, countPlace, screenPlace, slotPlace, handlePlace, kindPlace, objectPlace, bitmapHeightIn, bitmapDirtyIn, colorIn, penWidthIn, fontHeightIn}
-use Rattle.numbers.specs.Block.{bitmapFields, at, dcOf, objectOf}
+use Rattle.numbers.specs.Block.{bitmapFields, at, dcFields, objectOf}
 use Rattle.numbers.specs.View.{view, isRecord}
 use Rattle.numbers.proofs.Record.{parts}
 use Rattle.numbers.proofs.View.{slot-seen}
@@ -76,7 +76,7 @@ module _ (l : List ℕ) where
   pub found-in : (h : ℕ) {i : ℕ} → findOf (view l) h ≡ At i → i < at l countPlace
   found-in h e = rw count-seen at (found-count (view l) h e)
 
-  pub screen-seen : view l .screen ≡ dcOf (part l screenPlace dcSize)
+  pub screen-seen : view l .screen ≡ dcFields (part l screenPlace dcSize)
   unfolding view
   screen-seen = refl
 
@@ -107,7 +107,7 @@ module _ (l : List ℕ) (r : isRecord l ≡ true) where
 
 -- an object by its kind's number
 module _ (k : ℕ) (d : List ℕ) where
-  pub object-dc : k ≡ 0 → objectOf k d ≡ DcOf (dcOf d)
+  pub object-dc : k ≡ 0 → objectOf k d ≡ DcOf (dcFields d)
   unfolding objectOf
   object-dc e = rw e
 
@@ -128,7 +128,7 @@ module _ (k : ℕ) (d : List ℕ) where
   object-font a b x y = rw (ne-eqb k 0 a, ne-eqb k 1 b, ne-eqb k 2 x, ne-eqb k 3 y)
 
   -- what holds of the object of each kind
-  pub by-kind : (P : GdiObject → Type 0) → (k ≡ 0 → P (DcOf (dcOf d))) → (k ≡ 1 → P (Bitmap (bitmapFields d)))
+  pub by-kind : (P : GdiObject → Type 0) → (k ≡ 0 → P (DcOf (dcFields d))) → (k ≡ 1 → P (Bitmap (bitmapFields d)))
       → ((x : BrushRecord) → P (Brush x)) → ((x : PenRecord) → P (Pen x)) → ((x : FontRecord) → P (Font x)) → P (objectOf k d)
   by-kind P dc bitmap brush pen font = by (ℕ-discrete k 0) (ℕ-discrete k 1) (ℕ-discrete k 2) (ℕ-discrete k 3)
     where

@@ -6,15 +6,15 @@ use mathlib.Core.Path.{_≡_, _∙_, ap}
 use Prim.Native.Nat.{ℕ, _+_, _-_, _*_, _<_}
 use native.Mathlib.Omega.{arith}
 use lib.Dec.{eqb}
-use Rattle.laws.proofs.Test.{both, all-same}
+use Rattle.arithmetic.proofs.Test.{both, all-same}
 use Rattle.words.specs.Parts.{part}
 use Rattle.gdi.specs.declared.Dc.{Dc}
 use Rattle.gdi.specs.declared.GdiObject.the-variants.{Bitmap}
 use Rattle.gdi.specs.declared.Slot.{Slot}
 use Rattle.gdi.specs.Updates.{withSides, withFrames, withStockDirty, withObjects, withScreen, withHostDirty}
 use Rattle.numbers.specs.Layout.{dcSize, objectSize, headSize, panelLenPlace, storeLenPlace, widthPlace, heightPlace, framesLowPlace, framesHighPlace, nextHandlePlace, stockDirtyPlace, countPlace, screenPlace, bitmapWidthIn, bitmapHeightIn, bitmapDirtyIn, bitmapSize}
-use Rattle.numbers.specs.Block.{at, isFlag, dcOf, bitmapFields, objectOf, zerosFrom, isObject, ObjectCoded}
-use Rattle.numbers.specs.View.{tableOf, view}
+use Rattle.numbers.specs.Block.{at, isFlag, dcFields, bitmapFields, objectOf, zerosFrom, isObject, ObjectCoded}
+use Rattle.numbers.specs.View.{slotTable, view}
 
 module _ (l l′ : List ℕ) where
   -- the numbers in front of the screen DC are kept, except for two
@@ -22,7 +22,7 @@ module _ (l l′ : List ℕ) where
   KeptBut a b = (k : ℕ) → k < headSize → (k ≡ a → ⊥) → (k ≡ b → ⊥) → at l′ k ≡ at l k
 
   module _ (screen : part l′ screenPlace dcSize ≡ part l screenPlace dcSize) where
-    pub objects-seen : KeptBut nextHandlePlace countPlace → {next count : ℕ} {t : List Slot} → at l′ nextHandlePlace ≡ next → at l′ countPlace ≡ count → tableOf l′ (at l′ countPlace) ≡ t
+    pub objects-seen : KeptBut nextHandlePlace countPlace → {next count : ℕ} {t : List Slot} → at l′ nextHandlePlace ≡ next → at l′ countPlace ≡ count → slotTable l′ (at l′ countPlace) ≡ t
         → view l′ ≡ withObjects (view l) next count t
     unfolding view
     objects-seen kept named counted table =
@@ -40,7 +40,7 @@ module _ (l l′ : List ℕ) where
           kept stockDirtyPlace (omega arith) (λ x. omega arith) (λ x. omega arith),
         )
 
-    module _ (table : tableOf l′ (at l′ countPlace) ≡ tableOf l (at l countPlace)) where
+    module _ (table : slotTable l′ (at l′ countPlace) ≡ slotTable l (at l countPlace)) where
       pub sides-seen : KeptBut widthPlace heightPlace → {w h : ℕ} → at l′ widthPlace ≡ w → at l′ heightPlace ≡ h → view l′ ≡ withSides (view l) w h
       unfolding view
       sides-seen kept wide high =
@@ -91,7 +91,7 @@ module _ (l l′ : List ℕ) where
             kept countPlace (omega arith) (λ x. omega arith) (λ x. omega arith),
           )
 
-  pub screen-seen : KeptBut headSize headSize → tableOf l′ (at l′ countPlace) ≡ tableOf l (at l countPlace) → {d : Dc} → dcOf (part l′ screenPlace dcSize) ≡ d → view l′ ≡ withScreen (view l) d
+  pub screen-seen : KeptBut headSize headSize → slotTable l′ (at l′ countPlace) ≡ slotTable l (at l countPlace) → {d : Dc} → dcFields (part l′ screenPlace dcSize) ≡ d → view l′ ≡ withScreen (view l) d
   unfolding view
   screen-seen kept table dc =
       rw (

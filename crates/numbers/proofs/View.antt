@@ -14,14 +14,14 @@ use Rattle.gdi.specs.declared.Slot.{Slot}
 use Rattle.gdi.specs.Record.{noSlot, vacantSlot}
 use Rattle.gdi.specs.Lookup.{slotAt}
 use Rattle.numbers.specs.Layout.{slotSize, countPlace, slotPlace}
-use Rattle.numbers.specs.Block.{at, bit, slotOf}
+use Rattle.numbers.specs.Block.{at, flagNumber, slotOf}
 use Rattle.numbers.specs.View.{tableFrom, slotIn, view}
 
 -- the numbers in front of the screen DC, by the record
-abbrev pub benchNumbers : GdiState → List ℕ
-benchNumbers b =
+abbrev pub deviceNumbers : GdiState → List ℕ
+deviceNumbers b =
     b .«panel_len» ∷ b .«store_len» ∷ b .width ∷ b .height ∷ b .«frame_counter» % 4294967296 ∷ b .«frame_counter» / 4294967296 ∷ b .«next_handle»
-    ∷ bit (b .«stock_dirty») ∷ b .count ∷ []
+    ∷ flagNumber (b .«stock_dirty») ∷ b .count ∷ []
 
 -- tables of slots
 pub length-table : (f : ℕ → Slot) (k m : ℕ) → length (tableFrom f k m) ≡ m

@@ -6,7 +6,7 @@ use Prim.Native.Nat.{ℕ, _+_, _-_}
 use lib.Dec.{eqb, leb}
 use lib.ListN.{getD}
 use Rattle.words.specs.Parts.{part}
-use Rattle.laws.specs.Test.{allBelow}
+use Rattle.arithmetic.specs.Test.{allBelow}
 use Rattle.bigendian.specs.BigEndian.{signed32}
 use Rattle.gdi.specs.declared.DcSurface.{DcSurface}
 use Rattle.gdi.specs.declared.DcSurface.the-variants.{Screen, Memory}
@@ -30,8 +30,8 @@ flagOf n = eqb n 1
 abbrev pub isFlag : ℕ → Bool
 isFlag n = leb n 1
 
-abbrev pub bit : Bool → ℕ
-bit f = cond f 1 0
+abbrev pub flagNumber : Bool → ℕ
+flagNumber f = cond f 1 0
 
 -- 0 the screen, 1 memory
 abbrev pub surfaceOf : ℕ → DcSurface
@@ -43,8 +43,8 @@ bitmapOf present h = cond (flagOf present) (Chosen h) Unset
 
 -- The numbers of a DC: surface, bitmap present, bitmap, brush, pen, font, brush colour, pen colour, text colour, alignment,
 -- background colour, transparent.
-unfoldable pub dcOf : List ℕ → Dc
-dcOf l =
+unfoldable pub dcFields : List ℕ → Dc
+dcFields l =
     record {
       surface = surfaceOf (at l surfaceIn);
       «selected_bitmap» = bitmapOf (at l presentIn) (at l bitmapIn);
@@ -71,7 +71,7 @@ bitmapFields l = record { width = at l bitmapWidthIn; height = at l bitmapHeight
 -- width, height and dirty; a brush is colour; a pen colour and width; a font height in two's complement.
 unfoldable pub objectOf : (kind : ℕ) → List ℕ → GdiObject
 objectOf kind l =
-    cond (eqb kind 0) (DcOf (dcOf l)) (
+    cond (eqb kind 0) (DcOf (dcFields l)) (
     cond (eqb kind 1) (Bitmap (bitmapFields l)) (
     cond (eqb kind 2) (Brush (record { color = record { 0 = at l colorIn } })) (
     cond (eqb kind 3) (Pen (record { color = record { 0 = at l colorIn }; width = at l penWidthIn }))

@@ -1,11 +1,11 @@
-// A bench record as flat numbers of 32 bits, which a host keeps and lends: the DCs, objects and slots that its blocks of numbers
+// A device record as flat numbers of 32 bits, which a host keeps and lends: the DCs, objects and slots that its blocks of numbers
 // are.
 ghost use mathlib.Core.Path.{_≡_};
 ghost use Prim.Native.Nat.{_≤_};
 ghost use lib.ListN.{length};
 ghost use Rattle.bigendian.specs.BigEndian.{signed32};
 ghost use Rattle.numbers.specs.Layout.{dcSize, objectSize, slotSize};
-ghost use Rattle.numbers.specs.Block.{bit, surfaceOf, bitmapOf, dcOf, objectOf, slotOf};
+ghost use Rattle.numbers.specs.Block.{flagNumber, surfaceOf, bitmapOf, dcFields, objectOf, slotOf};
 use color::Colorref;
 use gdi::Bitmap;
 use gdi::Brush;
@@ -109,7 +109,7 @@ pub const PEN_SIZE: usize = 2;
 pub const FONT_SIZE: usize = 1;
 
 pub fn flag_number(f: bool) -> u32
-    ensures { λ r. ⌜ r ≡ bit f ⌝ }
+    ensures { λ r. ⌜ r ≡ flagNumber f ⌝ }
 {
     if f { 1 } else { 0 }
 }
@@ -144,62 +144,62 @@ fn signed(n: u32) -> i32
     ((n as i64) - 0x1_0000_0000) as i32
 }
 
-pub fn dc_of(l: &[u32]) -> Dc
-    requires { ⌜ dcSize ≤ length (now l) ⌝ }
-    ensures { λ r. ⌜ r ≡ dcOf (now (l .entry)) ⌝ }
+pub fn dc_of(numbers: &[u32]) -> Dc
+    requires { ⌜ dcSize ≤ length (now numbers) ⌝ }
+    ensures { λ r. ⌜ r ≡ dcFields (now (numbers .entry)) ⌝ }
 {
-    let surface = surface_of(l[SURFACE]);
-    let bitmap = bitmap_of(l[BITMAP_PRESENT], l[BITMAP]);
+    let surface = surface_of(numbers[SURFACE]);
+    let bitmap = bitmap_of(numbers[BITMAP_PRESENT], numbers[BITMAP]);
     Dc {
         surface: surface,
         selected_bitmap: bitmap,
-        selected_brush: l[BRUSH],
-        selected_pen: l[PEN],
-        selected_font: l[FONT],
-        brush_color: Colorref(l[BRUSH_COLOR]),
-        pen_color: Colorref(l[PEN_COLOR]),
-        text_color: Colorref(l[TEXT_COLOR]),
-        text_align: l[TEXT_ALIGN],
-        bk_color: Colorref(l[BK_COLOR]),
-        bk_transparent: l[BK_TRANSPARENT] == 1,
+        selected_brush: numbers[BRUSH],
+        selected_pen: numbers[PEN],
+        selected_font: numbers[FONT],
+        brush_color: Colorref(numbers[BRUSH_COLOR]),
+        pen_color: Colorref(numbers[PEN_COLOR]),
+        text_color: Colorref(numbers[TEXT_COLOR]),
+        text_align: numbers[TEXT_ALIGN],
+        bk_color: Colorref(numbers[BK_COLOR]),
+        bk_transparent: numbers[BK_TRANSPARENT] == 1,
     }
 }
 
 // The object of this kind.
-pub fn object_of(kind: u32, l: &[u32]) -> GdiObject
-    requires { ⌜ objectSize ≤ length (now l) ⌝ }
-    ensures { λ r. ⌜ r ≡ objectOf kind (now (l .entry)) ⌝ }
+pub fn object_of(kind: u32, numbers: &[u32]) -> GdiObject
+    requires { ⌜ objectSize ≤ length (now numbers) ⌝ }
+    ensures { λ r. ⌜ r ≡ objectOf kind (now (numbers .entry)) ⌝ }
 {
     match kind {
         0 => {
-            let d = dc_of(l);
+            let d = dc_of(numbers);
             GdiObject::Dc(d)
         }
         1 => GdiObject::Bitmap(Bitmap {
-            width: l[WIDTH_IN],
-            height: l[HEIGHT_IN],
-            host_dirty: l[DIRTY_IN] == 1,
+            width: numbers[WIDTH_IN],
+            height: numbers[HEIGHT_IN],
+            host_dirty: numbers[DIRTY_IN] == 1,
         }),
         2 => GdiObject::Brush(Brush {
-            color: Colorref(l[COLOR_IN]),
+            color: Colorref(numbers[COLOR_IN]),
         }),
         3 => GdiObject::Pen(Pen {
-            color: Colorref(l[COLOR_IN]),
-            width: l[PEN_WIDTH_IN],
+            color: Colorref(numbers[COLOR_IN]),
+            width: numbers[PEN_WIDTH_IN],
         }),
         _ => GdiObject::Font(Font {
-            height: signed(l[FONT_HEIGHT_IN]),
+            height: signed(numbers[FONT_HEIGHT_IN]),
         }),
     }
 }
 
-pub fn slot_of(l: &[u32]) -> Slot
-    requires { ⌜ slotSize ≤ length (now l) ⌝ }
-    ensures { λ r. ⌜ r ≡ slotOf (now (l .entry)) ⌝ }
+pub fn slot_of(numbers: &[u32]) -> Slot
+    requires { ⌜ slotSize ≤ length (now numbers) ⌝ }
+    ensures { λ r. ⌜ r ≡ slotOf (now (numbers .entry)) ⌝ }
 {
-    let o = object_of(l[KIND], &l[OBJECT..SLOT]);
+    let o = object_of(numbers[KIND], &numbers[OBJECT..SLOT]);
     Slot {
-        handle: l[HANDLE],
+        handle: numbers[HANDLE],
         object: o,
     }
 }

@@ -7,14 +7,14 @@ use native.Mathlib.Omega.{arith}
 use lib.ListN.{length, drop, length-drop}
 use lib.Seq.{ext-getD, getD-drop}
 use borrow.Author.Tests.{eq-eqb, le-leb, le-ltb}
-use Rattle.laws.proofs.Test.{together, all-of}
+use Rattle.arithmetic.proofs.Test.{together, all-of}
 use Rattle.words.specs.Parts.{part, withPart}
 use Rattle.words.proofs.Parts.{length-part, length-with, with-before, with-within, with-behind, part-same}
 use Rattle.gdi.specs.declared.Dc.{Dc}
 use Rattle.gdi.specs.Record.{noSlot, vacantSlot, screenDc, fresh}
 use Rattle.numbers.specs.Layout.{dcSize, slotSize, headSize, recordSize, panelLenPlace, storeLenPlace, widthPlace, heightPlace, framesLowPlace, framesHighPlace, nextHandlePlace, stockDirtyPlace, countPlace, screenPlace, slotsPlace, slotPlace}
 use Rattle.numbers.specs.Block.{at, isFlag, isDc, slotOf, isSlot}
-use Rattle.numbers.specs.View.{slotIn, tableOf, view, isRecord, Stored}
+use Rattle.numbers.specs.View.{slotIn, slotTable, view, isRecord, Updated}
 use Rattle.numbers.proofs.Block.{DcCoded, lentBack, lent-back}
 use Rattle.numbers.proofs.View.{length-table, table-slot}
 use Rattle.plan.specs.Vacant.{Vacant}
@@ -58,9 +58,9 @@ module _ (n k w h : ℕ) (l ys : List ℕ) (long : length l ≡ recordSize) (len
   slot : (i : ℕ) → slotIn whole (at whole countPlace) i ≡ vacantSlot
   slot i = ap (λ (t : Bool). cond t (slotOf (part whole (slotPlace i) slotSize)) vacantSlot) (le-ltb i (at whole countPlace) (omega (arith, number countPlace (omega arith))))
 
-  objects : tableOf whole (at whole countPlace) ≡ fresh n k w h .objects
+  objects : slotTable whole (at whole countPlace) ≡ fresh n k w h .objects
   objects =
-      ext-getD noSlot (tableOf whole (at whole countPlace)) (fresh n k w h .objects) (length-table (slotIn whole (at whole countPlace)) 0 256 ∙ sym (vacant .table))
+      ext-getD noSlot (slotTable whole (at whole countPlace)) (fresh n k w h .objects) (length-table (slotIn whole (at whole countPlace)) 0 256 ∙ sym (vacant .table))
       (λ i lt. let b : i < 256 = omega (arith, length-table (slotIn whole (at whole countPlace)) 0 256) in
       table-slot (slotIn whole (at whole countPlace)) i b ∙ slot i ∙ sym (vacant .vacant i (omega arith) b))
 
@@ -96,15 +96,15 @@ module _ (n k w h : ℕ) (l ys : List ℕ) (long : length l ≡ recordSize) (len
       with-tail first ys screenPlace dcSize len (omega (arith, first-long)) slotsPlace (omega arith)
       ∙ with-tail l (head n k w h) 0 headSize refl (omega arith) slotsPlace (omega arith)
 
-  put : Stored l (fresh n k w h) whole
+  put : Updated l (fresh n k w h) whole
   put = record { is-record = good; same = seen; rest = kept }
 
 -- the same, with the parts as the code lends them and has them back
 pub fresh-put : {n k w h : ℕ} (l xs ys : List ℕ) {d : Dc} → length l ≡ recordSize → xs ≡ head n k w h → d ≡ screenDc → length ys ≡ length (part (lentBack l 0 headSize xs) screenPlace dcSize) → DcCoded d ys
-    → Stored l (fresh n k w h) (lentBack (lentBack l 0 headSize xs) screenPlace dcSize ys)
-fresh-put {n} {k} {w} {h} l xs ys long bench is len screen =
+    → Updated l (fresh n k w h) (lentBack (lentBack l 0 headSize xs) screenPlace dcSize ys)
+fresh-put {n} {k} {w} {h} l xs ys long device is len screen =
     rw (lent-back (lentBack l 0 headSize xs) screenPlace dcSize ys ∙ ap (λ (x : List ℕ). withPart x screenPlace dcSize ys) once)
     (put n k w h l ys long (len ∙ rw once (length-part (withPart l 0 headSize (head n k w h)) screenPlace dcSize (omega (arith, length-with l (head n k w h) 0 headSize refl (omega arith))))) (rw is at screen))
   where
     once : lentBack l 0 headSize xs ≡ withPart l 0 headSize (head n k w h)
-    once = lent-back l 0 headSize xs ∙ ap (withPart l 0 headSize) bench
+    once = lent-back l 0 headSize xs ∙ ap (withPart l 0 headSize) device

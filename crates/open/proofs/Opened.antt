@@ -7,18 +7,18 @@ use native.Mathlib.Omega.{arith}
 use lib.Dec.{leb}
 use lib.ListN.{length}
 use borrow.Author.Tests.{ne-eqb, le-leb, lt-leb, leb-true}
-use Rattle.laws.proofs.Sum.{sum-none}
+use Rattle.arithmetic.proofs.Sum.{sum-none}
 use Rattle.surface.specs.Refusal.{side}
 use Rattle.gdi.specs.Record.{size, bytesOf, fresh}
 use Rattle.gdi.specs.Lookup.{objectAt}
 use Rattle.numbers.specs.Layout.{recordSize}
-use Rattle.numbers.specs.View.{Stored}
+use Rattle.numbers.specs.View.{Updated}
 use Rattle.sound.specs.Sound.{limit, isSound}
 use Rattle.sound.proofs.Bytes.{area}
 use Rattle.sound.proofs.Sound.{whole}
 use Rattle.memory.specs.Gap.{blanked}
 use Rattle.ready.specs.Ready.{commonRefusal}
-use Rattle.ready.proofs.Ready.{looks}
+use Rattle.ready.proofs.Ready.{ready-accepts}
 use Rattle.paint.specs.Memories.{Memories, memories}
 use Rattle.plan.specs.Open.{openRefusal, openNumber, Opened}
 
@@ -103,9 +103,9 @@ module _ {w h n k : ℕ} (a : Accepted w h n k) where
         store = rw (sum-none (λ i. bytesOf (objectAt (fresh n k w h) i))) (a .store);
       })
 
--- an accepted open gives a bench that looks at calls
-pub opened-looks : (w h n k : ℕ) → openRefusal w h n k ≡ 0 → commonRefusal (fresh n k w h) n k ≡ 0
-opened-looks w h n k e = looks (record { sound = opened-sound (accepted w h n k _ refl e); panel = refl; store = refl })
+-- an accepted open gives a device that looks at calls
+pub opened-ready : (w h n k : ℕ) → openRefusal w h n k ≡ 0 → commonRefusal (fresh n k w h) n k ≡ 0
+opened-ready w h n k e = ready-accepts (record { sound = opened-sound (accepted w h n k _ refl e); panel = refl; store = refl })
 
 -- a refused open gives a record that every call refuses with 9
 pub refused-unsound : isSound (fresh 0 0 0 0) ≡ false
@@ -121,12 +121,12 @@ module _ (w h : ℕ) (l : List ℕ) (ms : Memories) (long : length l ≡ recordS
   answer : no₀ ≡ openNumber (length l) w h (length (ms .panel)) (length (ms .store))
   answer = rw (long) e
 
-  pub refused : {l′ : List ℕ} → (no₀ ≡ 0 → ⊥) → Stored l (fresh 0 0 0 0) l′ → Opened w h l ms no₀ l′ ms
+  pub refused : {l′ : List ℕ} → (no₀ ≡ 0 → ⊥) → Updated l (fresh 0 0 0 0) l′ → Opened w h l ms no₀ l′ ms
   refused ne s =
       record { answer = answer; numbers = λ x. rw (ne-eqb _ _ ne) s; kept = λ x. absurd (x long); panel = rw (ne-eqb _ _ ne); store = rw (ne-eqb _ _ ne) }
 
   pub opened : {l′ p q : List ℕ} → no₀ ≡ 0 → p ≡ blanked (ms .panel) 0 (size w h) → q ≡ blanked (ms .store) 0 2
-      → length p ≡ length (ms .panel) → length q ≡ length (ms .store) → Stored l (fresh (length p) (length q) w h) l′
+      → length p ≡ length (ms .panel) → length q ≡ length (ms .store) → Updated l (fresh (length p) (length q) w h) l′
       → Opened w h l ms 0 l′ (memories p q)
   opened z f g lp lq s =
       record { answer = sym z ∙ answer; numbers = λ x. rw (← lp, ← lq) s; kept = λ x. absurd (x long); panel = f; store = g }

@@ -1,10 +1,10 @@
-// Open: a fresh bench on two lent memories, its record in lent numbers.
+// Open: a fresh device on two lent memories, its record in lent numbers.
 ghost use mathlib.Core.List.{[], _∷_};
 ghost use mathlib.Core.Path.{_≡_};
 ghost use lib.ListN.{length};
 ghost use Rattle.gdi.specs.Record.{fresh};
 ghost use Rattle.numbers.specs.Layout.{headSize, recordSize};
-ghost use Rattle.numbers.specs.View.{Stored};
+ghost use Rattle.numbers.specs.View.{Updated};
 ghost use Rattle.paint.specs.Memories.{memories};
 ghost use Rattle.plan.specs.Open.{openRefusal, Opened};
 use gdi::GDI_HANDLE_BASE;
@@ -53,48 +53,54 @@ fn refusal(width: u32, height: u32, panel_len: usize, store_len: usize) -> u32
     BAD_SIDE
 }
 
-// Opens a bench with a panel of these sides. Accepted, the panel and the stock pixel are black, and no other byte changes. The
+// Opens a device with a panel of these sides. Accepted, the panel and the stock pixel are black, and no other byte changes. The
 // number with which it is refused, 0 if it is not; numbers that no record fits are refused with 9.
-pub fn open(l: &mut [u32], panel: &mut [u8], store: &mut [u8], width: u32, height: u32) -> u32
-    ensures { λ r. ⌜ Opened width height (now (l .entry)) (memories (now (panel .entry)) (now (store .entry))) r (now (l .exit)) (memories (now (panel .exit)) (now (store .exit))) ⌝ }
+pub fn open(numbers: &mut [u32], panel: &mut [u8], store: &mut [u8], width: u32, height: u32) -> u32
+    ensures { λ r. ⌜ Opened width height (now (numbers .entry)) (memories (now (panel .entry)) (now (store .entry))) r (now (numbers .exit)) (memories (now (panel .exit)) (now (store .exit))) ⌝ }
 {
-    if l.len() != RECORD {
+    if numbers.len() != RECORD {
         return UNSOUND_RECORD;
     }
     let no = refusal(width, height, panel.len(), store.len());
     if no != 0 {
-        put_fresh(l, 0, 0, 0, 0);
+        put_fresh(numbers, 0, 0, 0, 0);
         return no;
     }
     let n = 2 * ((width as usize) * (height as usize));
     memory::zero(panel, 0, n);
     memory::zero(store, 0, 2);
-    put_fresh(l, panel.len() as u32, store.len() as u32, width, height);
+    put_fresh(
+        numbers,
+        panel.len() as u32,
+        store.len() as u32,
+        width,
+        height,
+    );
     0
 }
 
 // Puts a record without created objects. The numbers past its screen DC are kept.
-fn put_fresh(l: &mut [u32], panel_len: u32, store_len: u32, width: u32, height: u32)
-    requires { ⌜ length (now l) ≡ recordSize ⌝ }
-    ensures { λ _. ⌜ Stored (now (l .entry)) (fresh «panel_len» «store_len» width height) (now (l .exit)) ⌝ }
+fn put_fresh(numbers: &mut [u32], panel_len: u32, store_len: u32, width: u32, height: u32)
+    requires { ⌜ length (now numbers) ≡ recordSize ⌝ }
+    ensures { λ _. ⌜ Updated (now (numbers .entry)) (fresh «panel_len» «store_len» width height) (now (numbers .exit)) ⌝ }
 {
-    put_head(&mut l[0..SCREEN], panel_len, store_len, width, height);
+    put_head(&mut numbers[0..SCREEN], panel_len, store_len, width, height);
     let d = gdi::screen_dc();
-    encode::put_dc(&mut l[SCREEN..SLOTS], d);
+    encode::put_dc(&mut numbers[SCREEN..SLOTS], d);
 }
 
 // Puts the numbers in front of the screen DC.
-fn put_head(l: &mut [u32], panel_len: u32, store_len: u32, width: u32, height: u32)
-    requires { ⌜ length (now l) ≡ headSize ⌝ }
-    ensures { λ _. ⌜ now (l .exit) ≡ «panel_len» ∷ «store_len» ∷ width ∷ height ∷ 0 ∷ 0 ∷ 0xDEAD_1000 ∷ 0 ∷ 0 ∷ [] ⌝ }
+fn put_head(numbers: &mut [u32], panel_len: u32, store_len: u32, width: u32, height: u32)
+    requires { ⌜ length (now numbers) ≡ headSize ⌝ }
+    ensures { λ _. ⌜ now (numbers .exit) ≡ «panel_len» ∷ «store_len» ∷ width ∷ height ∷ 0 ∷ 0 ∷ 0xDEAD_1000 ∷ 0 ∷ 0 ∷ [] ⌝ }
 {
-    l[PANEL_LEN] = panel_len;
-    l[STORE_LEN] = store_len;
-    l[WIDTH] = width;
-    l[HEIGHT] = height;
-    l[FRAMES_LOW] = 0;
-    l[FRAMES_HIGH] = 0;
-    l[NEXT_HANDLE] = GDI_HANDLE_BASE;
-    l[STOCK_DIRTY] = 0;
-    l[COUNT] = 0;
+    numbers[PANEL_LEN] = panel_len;
+    numbers[STORE_LEN] = store_len;
+    numbers[WIDTH] = width;
+    numbers[HEIGHT] = height;
+    numbers[FRAMES_LOW] = 0;
+    numbers[FRAMES_HIGH] = 0;
+    numbers[NEXT_HANDLE] = GDI_HANDLE_BASE;
+    numbers[STOCK_DIRTY] = 0;
+    numbers[COUNT] = 0;
 }

@@ -8,9 +8,9 @@ use native.Mathlib.Omega.{arith}
 use lib.IntN.{ℤ, pos, _+ℤ_, _-ℤ_}
 use lib.ListN.{length}
 use lib.Signed.{leZ}
-use Rattle.laws.specs.Integer.{positive}
-use Rattle.laws.proofs.Integer.{as-natural}
-use Rattle.laws.proofs.Test.{not-left, not-right}
+use Rattle.arithmetic.specs.Integer.{positive}
+use Rattle.arithmetic.proofs.Integer.{as-natural}
+use Rattle.arithmetic.proofs.Test.{not-left, not-right}
 use Rattle.words.specs.Words.{painted}
 use Rattle.words.proofs.Painted.{painted-none, painted-cong}
 use Rattle.clip.specs.Clip.{covers}

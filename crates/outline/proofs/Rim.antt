@@ -7,12 +7,12 @@ use lib.Dec.{leb, ltb}
 use lib.IntN.{ℤ, pos, _+ℤ_, _-ℤ_}
 use lib.Signed.{leZ, ltZ}
 use borrow.Author.Tests.{le-leb, lt-leb, lt-ltb, le-ltb}
-use Rattle.laws.specs.Interval.{between}
-use Rattle.laws.specs.Integer.{positive}
-use Rattle.laws.specs.Inner.{negative}
-use Rattle.laws.proofs.Interval.{Lies, inside, before, behind, where-is, between-yes, between-no}
-use Rattle.laws.proofs.Integer.{sum, difference, one-part, le-parts, lt-parts}
-use Rattle.laws.proofs.Test.{same-order}
+use Rattle.arithmetic.specs.Interval.{between}
+use Rattle.arithmetic.specs.Integer.{positive}
+use Rattle.arithmetic.specs.Inner.{negative}
+use Rattle.arithmetic.proofs.Interval.{Lies, inside, before, behind, where-is, between-yes, between-no}
+use Rattle.arithmetic.proofs.Integer.{sum, difference, one-part, le-parts, lt-parts}
+use Rattle.arithmetic.proofs.Test.{same-order}
 use Rattle.clip.specs.Clip.{nearest, covers}
 use Rattle.clip.proofs.Clip.{covers-parts, nearest-parts, nearest-le, nearest-lt}
 use Rattle.outline.specs.declared.Edges.{Edges}

@@ -7,7 +7,7 @@ use native.Mathlib.Omega.{arith}
 use lib.Dec.{ltb}
 use lib.ListN.{length}
 use borrow.Author.Tests.{leb-true, ltb-true, ltb-false, le-leb, lt-leb, eq-eqb, ne-eqb}
-use Rattle.laws.proofs.Test.{both, together}
+use Rattle.arithmetic.proofs.Test.{both, together}
 use Rattle.p6.specs.P6.{digits, decimal, header, p6}
 use Rattle.p6.specs.Reader.{Picture, picture, isSpace, isDigit, first, pastSpace, whitespace, oneSpace, moreDigits, number, raster, read}
 

@@ -9,8 +9,8 @@ use lib.Dec.{eqb}
 use lib.ListN.{length, drop, replicate, length-replicate, getD-replicate}
 use lib.Seq.{getD-take, getD-drop, ext-getD}
 use borrow.Author.Tests.{eqb-true, eqb-false, eq-eqb, ne-eqb, not-true}
-use Rattle.laws.proofs.Test.{each}
-use Rattle.laws.proofs.Sum.{sum-suc}
+use Rattle.arithmetic.proofs.Test.{each}
+use Rattle.arithmetic.proofs.Sum.{sum-suc}
 use Rattle.words.specs.Words.{word}
 use Rattle.words.specs.Parts.{part}
 use Rattle.words.proofs.Parts.{length-part, length-with, with-within, part-other}
@@ -31,13 +31,13 @@ use Rattle.place.specs.declared.Place.{Place}
 use Rattle.place.specs.declared.Place.the-variants.{Nowhere, At}
 use Rattle.place.specs.declared.SurfaceId.{SurfaceId}
 use Rattle.place.specs.declared.SurfaceId.the-variants.{Panel, Bitmap}
-use Rattle.place.specs.Place.{slotsFrom, live, frameOf, locate, whereIs, Within}
+use Rattle.place.specs.Place.{slotsFrom, live, placeFrom, locate, whereIs, Within}
 use Rattle.place.proofs.Apart.{clash, From, nothing, some, bitmap-from, places}
 use Rattle.handles.specs.Handles.{newHandle, added}
 use Rattle.handles.proofs.Added.{newSlot, live-added, new-absent, new-no-stock}
-use Rattle.paint.specs.Memories.{Memories, memoryOf, withMemory, widthOf, inside, pixelsAt, colourAt}
+use Rattle.paint.specs.Memories.{Memories, memoryOf, withMemory, widthOf, hasPixel, pixelsAt, colourAt}
 use Rattle.paint.specs.Paint.{blank, only, paintedBy}
-use Rattle.paint.specs.Marks.{Marks, markedBy}
+use Rattle.paint.specs.Taint.{Taint, taintedBy}
 use Rattle.paint.proofs.Alike.{Alike}
 
 -- a surface that has no place, or whose bytes are all among the n of the memory from p on
@@ -96,17 +96,17 @@ among-alike p n (within {k = k} {q = q} {w = w} {h = h} a b) ms ns f g =
     (part-black (memoryOf ms k) p n q (size w h) f a b ∙ sym (part-black (memoryOf ns k) p n q (size w h) g a b))
 
 module _ (k : Memory) (p n : ℕ) (clears : SurfaceId → Bool) (b b′ : GdiState) (asked : (u : SurfaceId) → Blanked k p n (clears u) (whereIs b u) (whereIs b′ u)) where
-  -- unmarked pixels stay alike, and cleared surfaces are alike whatever was marked
-  pub blank-alike : (a : GdiState) (m : Marks) (ms ns : Memories) → p + n ≤ length (memoryOf ms k) → p + n ≤ length (memoryOf ns k) → Alike b m ms ns
-      → Alike b′ (markedBy (blank k p n clears) m) (paintedBy a (blank k p n clears) ms) (paintedBy a (blank k p n clears) ns)
-  unfolding markedBy paintedBy
+  -- untainted pixels stay alike, and cleared surfaces are alike whatever was tainted
+  pub blank-alike : (a : GdiState) (m : Taint) (ms ns : Memories) → p + n ≤ length (memoryOf ms k) → p + n ≤ length (memoryOf ns k) → Alike b m ms ns
+      → Alike b′ (taintedBy (blank k p n clears) m) (paintedBy a (blank k p n clears) ms) (paintedBy a (blank k p n clears) ns)
+  unfolding taintedBy paintedBy
   blank-alike a m ms ns f g like u x y i none = by (asked u) (like u x y) i none
     where
-      by : {t : Bool} {then now : Place} → Blanked k p n t then now → (inside then x y ≡ true → (m u x y → ⊥) → colourAt ms then x y ≡ colourAt ns then x y)
-          → inside now x y ≡ true → (cond t ⊥ (m u x y) → ⊥) → colourAt (blacked ms k p n) now x y ≡ colourAt (blacked ns k p n) now x y
+      by : {t : Bool} {then now : Place} → Blanked k p n t then now → (hasPixel then x y ≡ true → (m u x y → ⊥) → colourAt ms then x y ≡ colourAt ns then x y)
+          → hasPixel now x y ≡ true → (cond t ⊥ (m u x y) → ⊥) → colourAt (blacked ms k p n) now x y ≡ colourAt (blacked ns k p n) now x y
       by (new {now = now} c) like i none = ap (λ (l : List ℕ). word l (x + y * widthOf now)) (among-alike p n c ms ns f g)
       by (old {then = then} e c) like i none =
-          subst (λ (at : Place). inside at x y ≡ true → colourAt (blacked ms k p n) at x y ≡ colourAt (blacked ns k p n) at x y) (sym e)
+          subst (λ (at : Place). hasPixel at x y ≡ true → colourAt (blacked ms k p n) at x y ≡ colourAt (blacked ns k p n) at x y) (sym e)
           (λ j. ap (λ (l : List ℕ). word l (x + y * widthOf then)) (off-pixels ms p n c f) ∙ like j none ∙ sym (ap (λ (l : List ℕ). word l (x + y * widthOf then)) (off-pixels ns p n c g))) i
 
 module _ (a : GdiState) (p n : ℕ) (clears : SurfaceId → Bool) (ms : Memories) where
@@ -127,22 +127,22 @@ locate-old s [] p k e = rw e
 locate-old s (r ∷ l) p k e = rw (locate-old s l (p + bytesOf (r .object)) k e)
 
 module _ (b : GdiState) (s : Slot) (h : ℕ) (is : eqb (s .handle) h ≡ true) (none : (j : ℕ) → j < b .count → eqb (handleAt (b .objects) j) h ≡ false) where
-  locate-new : (i m p : ℕ) → i + m ≡ b .count → p ≡ startOf b i → locate (slotsFrom (b .objects) i m ++ (s ∷ [])) p h ≡ frameOf (s .object) (used b)
+  locate-new : (i m p : ℕ) → i + m ≡ b .count → p ≡ startOf b i → locate (slotsFrom (b .objects) i m ++ (s ∷ [])) p h ≡ placeFrom (s .object) (used b)
   unfolding locate slotsFrom
-  locate-new i zero p e q = let z : i ≡ b .count = omega arith in rw is (ap (frameOf (s .object)) (rw z at q))
+  locate-new i zero p e q = let z : i ≡ b .count = omega arith in rw is (ap (placeFrom (s .object)) (rw z at q))
   locate-new i (suc m) p e q =
       rw (none i (omega arith)) (locate-new (suc i) m (p + bytesOf (objectAt b i)) (omega arith) (omega (arith, sum-suc i (λ k. bytesOf (objectAt b k)))))
 
 module _ (b : GdiState) (o : GdiObject) (sound : isSound b ≡ true) (h : ℕ) where
   -- the new object lies where the others end, and these where they lay
-  where-new : whereIs (added b o) (Bitmap h) ≡ cond (eqb h (newHandle b)) (frameOf o (used b)) (whereIs b (Bitmap h))
+  where-new : whereIs (added b o) (Bitmap h) ≡ cond (eqb h (newHandle b)) (placeFrom o (used b)) (whereIs b (Bitmap h))
   where-new = by (eqb h stockBitmap) refl (eqb h (newHandle b)) refl
     where
       none : (j : ℕ) → j < b .count → eqb (handleAt (b .objects) j) (newHandle b) ≡ false
       none j lt = not-true _ (each (b .count) (λ j. not (eqb (handleAt (b .objects) j) (newHandle b))) (new-absent b sound) j lt)
 
       by : (t : Bool) → eqb h stockBitmap ≡ t → (u : Bool) → eqb h (newHandle b) ≡ u
-          → cond t (At Store 0 1 1) (locate (live (added b o)) 2 h) ≡ cond u (frameOf o (used b)) (cond t (At Store 0 1 1) (locate (live b) 2 h))
+          → cond t (At Store 0 1 1) (locate (live (added b o)) 2 h) ≡ cond u (placeFrom o (used b)) (cond t (At Store 0 1 1) (locate (live b) 2 h))
       by true e true f =
           let q : newHandle b ≡ stockBitmap = sym (eqb-true h (newHandle b) f) ∙ eqb-true h stockBitmap e in
           let r : isStock stockBitmap ≡ true = unfold isStock in refl in
@@ -188,7 +188,7 @@ ends-off a p n (At PanelMemory q w h) i = on-panel
 ends-off a p n (At Store q w h) i = let end : q + size w h ≤ p = i .fits in apart {q = q} {w = w} {h = h} (λ j from to there within. omega (arith, end))
 
 -- a new object's bytes
-frame-among : (o : GdiObject) (p : ℕ) → Among p (bytesOf o) Store (frameOf o p)
+frame-among : (o : GdiObject) (p : ℕ) → Among p (bytesOf o) Store (placeFrom o p)
 frame-among (DcOf d) p = no-place
 frame-among (BitmapOf m) p = within {q = p} {w = m .width} {h = m .height} (omega arith) (omega arith)
 frame-among (Brush x) p = no-place
@@ -201,7 +201,7 @@ new-blanked b o sound Panel = unfold added in old refl on-panel
 new-blanked b o sound (Bitmap h) =
     subst (λ (now : Place). Blanked Store (used b) (bytesOf o) (eqb h (newHandle b)) (whereIs b (Bitmap h)) now) (sym (where-new b o sound h)) (by (eqb h (newHandle b)))
   where
-    by : (t : Bool) → Blanked Store (used b) (bytesOf o) t (whereIs b (Bitmap h)) (cond t (frameOf o (used b)) (whereIs b (Bitmap h)))
+    by : (t : Bool) → Blanked Store (used b) (bytesOf o) t (whereIs b (Bitmap h)) (cond t (placeFrom o (used b)) (whereIs b (Bitmap h)))
     by true = new (frame-among o (used b))
     by false = old refl (ends-off (b .«panel_len») (used b) (bytesOf o) (whereIs b (Bitmap h)) (ends b sound (Bitmap h)))
 

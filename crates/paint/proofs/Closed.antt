@@ -26,9 +26,9 @@ use Rattle.removal.proofs.Shifts.{Shift, gone, below, above, moved, nowhere-aft
 use Rattle.paint.specs.Memories.{Memories, memories, widthOf, pixelsAt, colourAt}
 use Rattle.paint.specs.Paint.{paintedBy, after}
 use Rattle.paint.specs.Paint.{closing}
-use Rattle.paint.specs.Marks.{Marks, markedBy, marked}
-use Rattle.paint.specs.Memories.{inside}
-use Rattle.paint.proofs.Alike.{Alike, Looks}
+use Rattle.paint.specs.Taint.{Taint, taintedBy, tainted}
+use Rattle.paint.specs.Memories.{hasPixel}
+use Rattle.paint.proofs.Alike.{Alike, ReadyWith}
 
 -- the memories with the n bytes from a on, of those up to e, gone from the store
 abbrev closed : Memories → (a n e : ℕ) → Memories
@@ -36,7 +36,7 @@ closed ms a n e = memories (ms .panel) (closedUp 0 (ms .store) a n e)
 
 -- a bitmap that stays: its sides, and its bytes where it lies now, are those that it had where it lay
 module _ {a n e : ℕ} where
-  shift-inside : {now then : Place} → Shift a n e now then → (x y : ℕ) → inside now x y ≡ true → inside then x y ≡ true
+  shift-inside : {now then : Place} → Shift a n e now then → (x y : ℕ) → hasPixel now x y ≡ true → hasPixel then x y ≡ true
   shift-inside gone x y i = i
   shift-inside (below p w h c) x y i = i
   shift-inside (above p q w h c d r) x y i = i
@@ -61,7 +61,7 @@ module _ (b : GdiState) (h i : ℕ) (found : findOf b h ≡ FoundAt i) where
   gap : Sound b → startOf b i + bytesOf (objectAt b i) ≤ used b
   gap s = room s i (found-count b h found)
 
-  stored : (ms : Memories) → Looks b ms → used b ≤ length (ms .store)
+  stored : (ms : Memories) → ReadyWith b ms → used b ≤ length (ms .store)
   stored ms l = omega (arith, parts b (l .sound) .store, l .store)
 
   module _ (created : isStock h ≡ false) where
@@ -78,10 +78,10 @@ module _ (b : GdiState) (h i : ℕ) (found : findOf b h ≡ FoundAt i) where
     others : Sound b → (k : ℕ) → eqb k h ≡ false → Shift (startOf b i) (bytesOf (objectAt b i)) (used b) (whereIs (withoutAt b i) (Bitmap k)) (whereIs b (Bitmap k))
     others s k f = moved b s i (found-count b h found) k (ne-eqb _ _ (λ q. eqb-false k h f (sym q ∙ scan-handle (b .objects) h 0 (b .count) found)))
 
-    -- the law: unmarked pixels of the other surfaces stay alike
-    pub close-alike : (m : Marks) (ms ns : Memories) → Looks b ms → Looks b ns → Alike b m ms ns
-        → Alike (withoutAt b i) (marked (closing b h i) m) (after b (closing b h i) ms) (after b (closing b h i) ns)
-    unfolding after paintedBy marked markedBy
+    -- the law: untainted pixels of the other surfaces stay alike
+    pub close-alike : (m : Taint) (ms ns : Memories) → ReadyWith b ms → ReadyWith b ns → Alike b m ms ns
+        → Alike (withoutAt b i) (tainted (closing b h i) m) (after b (closing b h i) ms) (after b (closing b h i) ns)
+    unfolding after paintedBy tainted taintedBy
     close-alike m ms ns lm ln like Panel x y j n = unfold withoutAt in like Panel x y (unfold withoutAt in j) n
     close-alike m ms ns lm ln like (Bitmap k) x y j n = by (eqb k h) refl n
       where
@@ -92,7 +92,7 @@ module _ (b : GdiState) (h i : ℕ) (found : findOf b h ≡ FoundAt i) where
         colour l = colourAt (closed l (startOf b i) (bytesOf (objectAt b i)) (used b)) (whereIs (withoutAt b i) (Bitmap k)) x y
 
         by : (t : Bool) → eqb k h ≡ t → (cond t ⊥ (m (Bitmap k) x y) → ⊥) → colour ms ≡ colour ns
-        by true f n = clash (sym (ap (λ (at : Place). inside at x y) (ap (λ (u : ℕ). whereIs (withoutAt b i) (Bitmap u)) (eqb-true k h f) ∙ itself s)) ∙ j)
+        by true f n = clash (sym (ap (λ (at : Place). hasPixel at x y) (ap (λ (u : ℕ). whereIs (withoutAt b i) (Bitmap u)) (eqb-true k h f) ∙ itself s)) ∙ j)
         by false f n =
             shift-colour (others s k f) ms (gap s) (stored ms lm) x y
             ∙ like (Bitmap k) x y (shift-inside (others s k f) x y j) n
@@ -102,6 +102,6 @@ module _ (b : GdiState) (h i : ℕ) (found : findOf b h ≡ FoundAt i) where
   unfolding after paintedBy
   closed-panel ms = refl
 
-  pub closed-store : (ms : Memories) → Looks b ms → length (after b (closing b h i) ms .store) ≡ length (ms .store)
+  pub closed-store : (ms : Memories) → ReadyWith b ms → length (after b (closing b h i) ms .store) ≡ length (ms .store)
   unfolding after paintedBy
   closed-store ms l = closed-length 0 (ms .store) (startOf b i) (bytesOf (objectAt b i)) (used b) (gap (parts b (l .sound))) (stored ms l)

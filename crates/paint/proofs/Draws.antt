@@ -8,7 +8,7 @@ use native.Mathlib.Omega.{arith}
 use lib.Dec.{ltb}
 use lib.ListN.{length}
 use borrow.Author.Tests.{eqb-true, ltb-true}
-use Rattle.laws.proofs.Test.{both}
+use Rattle.arithmetic.proofs.Test.{both}
 use Rattle.words.specs.Words.{word}
 use Rattle.words.specs.Parts.{part, withPart}
 use Rattle.words.proofs.Painted.{length-painted, agree-painted}
@@ -27,10 +27,10 @@ use Rattle.place.specs.declared.SurfaceId.the-variants.{Panel, Bitmap}
 use Rattle.place.specs.Place.{same, whereIs}
 use Rattle.place.proofs.Apart.{clash, Apart, no-first, no-second, panel-store, store-panel, before, behind, turn, apart}
 use Rattle.paint.specs.Memories.{Memories, widthOf, pixelsAt, over, colourAt}
-use Rattle.paint.specs.Paint.{Source, black, taken, Draw, draw, operand, drawn, paintedBy}
-use Rattle.paint.specs.Marks.{Marks, takenMarked, Reads, byD, byS, markedBy}
-use Rattle.paint.specs.Memories.{inside}
-use Rattle.paint.proofs.Alike.{Alike, Looks, Fits, surface-fits}
+use Rattle.paint.specs.Paint.{Source, black, sampled, Draw, draw, operand, drawnBytes, paintedBy}
+use Rattle.paint.specs.Taint.{Taint, sampleTainted, Reads, byD, byS, taintedBy}
+use Rattle.paint.specs.Memories.{hasPixel}
+use Rattle.paint.proofs.Alike.{Alike, ReadyWith, Fits, surface-fits}
 
 -- one result, if each operand that the code uses is the same
 same-result : (t c : ℕ) {s s′ d d′ : ℕ} → (usesSrc t ≡ true → s ≡ s′) → (usesDst t ≡ true → d ≡ d′) → applied t c s d ≡ applied t c s′ d′
@@ -98,17 +98,17 @@ module _ (f : List ℕ → List ℕ) (keeps : (bytes : List ℕ) → length (f b
     pixels-other (before {p = p} {w = w} {h = h} {q = q} {x = x} {y = y} e) i = put-other (ms .store) p (size w h) (i .fits) q (size x y) (λ j a b c d. omega arith)
     pixels-other (behind {p = p} {w = w} {h = h} {q = q} {x = x} {y = y} e) i = put-other (ms .store) p (size w h) (i .fits) q (size x y) (λ j a b c d. omega arith)
 
-drawn-length : (d : Draw) (s : ℕ → ℕ → ℕ) (w : ℕ) (l : List ℕ) → length (drawn d s w l) ≡ length l
+drawn-length : (d : Draw) (s : ℕ → ℕ → ℕ) (w : ℕ) (l : List ℕ) → length (drawnBytes d s w l) ≡ length l
 drawn-length d s w l = length-painted _ _ l
 
 -- a pixel of the target: alike if the results are where it is drawn, and the old colours where it is not
-on-target : (d : Draw) (s t : ℕ → ℕ → ℕ) (ms ns : Memories) (at : Place) (x y : ℕ) → Fits ms at → Fits ns at → inside at x y ≡ true
+on-target : (d : Draw) (s t : ℕ → ℕ → ℕ) (ms ns : Memories) (at : Place) (x y : ℕ) → Fits ms at → Fits ns at → hasPixel at x y ≡ true
     → (d .region x y ≡ true → applied (d .table) (d .pattern) (s x y) (colourAt ms at x y) ≡ applied (d .table) (d .pattern) (t x y) (colourAt ns at x y))
     → (d .region x y ≡ false → colourAt ms at x y ≡ colourAt ns at x y)
-    → colourAt (over at (drawn d s (widthOf at)) ms) at x y ≡ colourAt (over at (drawn d t (widthOf at)) ns) at x y
+    → colourAt (over at (drawnBytes d s (widthOf at)) ms) at x y ≡ colourAt (over at (drawnBytes d t (widthOf at)) ns) at x y
 on-target d s t ms ns Nowhere x y i j e new old = clash e
 on-target d s t ms ns (At m p w h) x y i j e new old =
-    rw (pixels-same (drawn d s w) (drawn-length d s w) ms m p w h i, pixels-same (drawn d t w) (drawn-length d t w) ns m p w h j)
+    rw (pixels-same (drawnBytes d s w) (drawn-length d s w) ms m p w h i, pixels-same (drawnBytes d t w) (drawn-length d t w) ns m p w h j)
     (agree-painted (wordsOf w (d .region)) (wordsOf w (d .region)) _ _ (pixelsAt ms (At m p w h)) (pixelsAt ns (At m p w h)) (x + y * w) (fit m ms i) (fit m ns j) refl
     (λ q. rw (column x y w a, row x y w a) (new (rw (column x y w a, row x y w a) at q)))
     (λ q. old (rw (column x y w a, row x y w a) at q)))
@@ -126,16 +126,16 @@ on-target d s t ms ns (At m p w h) x y i j e new old =
 -- what is taken for x, y is a pixel
 abbrev pub takenInside : GdiState → Source → (x y : ℕ) → Bool
 takenInside b black x y = true
-takenInside b (taken s fx fy) x y = inside (whereIs b s) (fx x) (fy y)
+takenInside b (sampled s fx fy) x y = hasPixel (whereIs b s) (fx x) (fy y)
 
 -- what is taken for any drawn pixel is a pixel: asked of a drawing
 abbrev pub Sourced : GdiState → Draw → Type 0
 Sourced b d = (x y : ℕ) → d .region x y ≡ true → takenInside b (d .source) x y ≡ true
 
-same-operand : (b : GdiState) (o : Source) (m : Marks) (ms ns : Memories) → Alike b m ms ns → (x y : ℕ) → takenInside b o x y ≡ true
-    → (takenMarked m o x y → ⊥) → operand b ms o x y ≡ operand b ns o x y
+same-operand : (b : GdiState) (o : Source) (m : Taint) (ms ns : Memories) → Alike b m ms ns → (x y : ℕ) → takenInside b o x y ≡ true
+    → (sampleTainted m o x y → ⊥) → operand b ms o x y ≡ operand b ns o x y
 same-operand b black m ms ns like x y i n = refl
-same-operand b (taken s fx fy) m ms ns like x y i n = like s (fx x) (fy y) i n
+same-operand b (sampled s fx fy) m ms ns like x y i n = like s (fx x) (fy y) i n
 
 same-surface : (u v : SurfaceId) → same u v ≡ true → u ≡ v
 same-surface Panel Panel e = refl
@@ -143,10 +143,10 @@ same-surface Panel (Bitmap h) e = clash e
 same-surface (Bitmap h) Panel e = clash e
 same-surface (Bitmap h) (Bitmap k) e = ap Bitmap (eqb-true h k e)
 
-module _ (b : GdiState) (d : Draw) (ms : Memories) (l : Looks b ms) where
+module _ (b : GdiState) (d : Draw) (ms : Memories) (l : ReadyWith b ms) where
   -- what it makes of the target's bytes
   abbrev drawing : List ℕ → List ℕ
-  drawing = drawn d (operand b ms (d .source)) (widthOf (whereIs b (d .target)))
+  drawing = drawnBytes d (operand b ms (d .source)) (widthOf (whereIs b (d .target)))
 
   keeps : (bytes : List ℕ) → length (drawing bytes) ≡ length bytes
   keeps = drawn-length d (operand b ms (d .source)) (widthOf (whereIs b (d .target)))
@@ -159,8 +159,8 @@ module _ (b : GdiState) (d : Draw) (ms : Memories) (l : Looks b ms) where
   unfolding paintedBy
   drawn-store = over-store drawing keeps ms (whereIs b (d .target)) (surface-fits b ms l (d .target))
 
-  pub drawn-looks : Looks b (paintedBy b (draw d) ms)
-  drawn-looks = record { sound = l .sound; panel = drawn-panel ∙ l .panel; store = drawn-store ∙ l .store }
+  pub drawn-ready : ReadyWith b (paintedBy b (draw d) ms)
+  drawn-ready = record { sound = l .sound; panel = drawn-panel ∙ l .panel; store = drawn-store ∙ l .store }
 
   -- a pixel of another surface
   off-target : (u : SurfaceId) (x y : ℕ) → same u (d .target) ≡ false → colourAt (paintedBy b (draw d) ms) (whereIs b u) x y ≡ colourAt ms (whereIs b u) x y
@@ -169,16 +169,16 @@ module _ (b : GdiState) (d : Draw) (ms : Memories) (l : Looks b ms) where
       ap (λ (bytes : List ℕ). word bytes (x + y * widthOf (whereIs b u)))
       (pixels-other drawing keeps ms (turn (apart b u (d .target) e)) (surface-fits b ms l (d .target)))
 
--- the law: a drawing keeps unmarked pixels alike
-pub draw-alike : (b : GdiState) (d : Draw) → Sourced b d → (m : Marks) (ms ns : Memories) → Looks b ms → Looks b ns → Alike b m ms ns
-    → Alike b (markedBy (draw d) m) (paintedBy b (draw d) ms) (paintedBy b (draw d) ns)
-unfolding markedBy
+-- the law: a drawing keeps untainted pixels alike
+pub draw-alike : (b : GdiState) (d : Draw) → Sourced b d → (m : Taint) (ms ns : Memories) → ReadyWith b ms → ReadyWith b ns → Alike b m ms ns
+    → Alike b (taintedBy (draw d) m) (paintedBy b (draw d) ms) (paintedBy b (draw d) ns)
+unfolding taintedBy
 draw-alike b d sourced m ms ns lm ln like u x y i n = by (same u (d .target)) refl n
   where
     after : Memories → SurfaceId → ℕ
     after l v = colourAt (paintedBy b (draw d) l) (whereIs b v) x y
 
-    on : inside (whereIs b (d .target)) x y ≡ true → (cond (d .region x y) (Reads m d (d .target) x y) (m (d .target) x y) → ⊥) → after ms (d .target) ≡ after ns (d .target)
+    on : hasPixel (whereIs b (d .target)) x y ≡ true → (cond (d .region x y) (Reads m d (d .target) x y) (m (d .target) x y) → ⊥) → after ms (d .target) ≡ after ns (d .target)
     on i n = unfold paintedBy in
         on-target d (operand b ms (d .source)) (operand b ns (d .source)) ms ns (whereIs b (d .target)) x y (surface-fits b ms lm (d .target)) (surface-fits b ns ln (d .target)) i
         (λ e. let k : Reads m d (d .target) x y → ⊥ = rw e at n in
@@ -189,6 +189,6 @@ draw-alike b d sourced m ms ns lm ln like u x y i n = by (same u (d .target)) re
 
     by : (t : Bool) → same u (d .target) ≡ t → (cond (t && d .region x y) (Reads m d u x y) (m u x y) → ⊥) → after ms u ≡ after ns u
     by true e n =
-        subst (λ (v : SurfaceId). inside (whereIs b v) x y ≡ true → (cond (d .region x y) (Reads m d v x y) (m v x y) → ⊥) → after ms v ≡ after ns v)
+        subst (λ (v : SurfaceId). hasPixel (whereIs b v) x y ≡ true → (cond (d .region x y) (Reads m d v x y) (m v x y) → ⊥) → after ms v ≡ after ns v)
         (sym (same-surface u (d .target) e)) on i n
     by false e n = off-target b d ms lm u x y e ∙ like u x y i n ∙ sym (off-target b d ns ln u x y e)

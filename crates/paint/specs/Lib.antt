@@ -1,3 +1,3 @@
 pub mod Memories
 pub mod Paint
-pub mod Marks
+pub mod Taint

@@ -37,9 +37,9 @@ heightOf Nowhere = 0
 heightOf (At m p w h) = h
 
 -- x, y within a surface's sides
-abbrev pub inside : Place → (x y : ℕ) → Bool
-inside Nowhere x y = false
-inside (At m p w h) x y = ltb x w && ltb y h
+abbrev pub hasPixel : Place → (x y : ℕ) → Bool
+hasPixel Nowhere x y = false
+hasPixel (At m p w h) x y = ltb x w && ltb y h
 
 -- a surface's bytes
 abbrev pub pixelsAt : Memories → Place → List ℕ

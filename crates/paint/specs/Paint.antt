@@ -18,7 +18,7 @@ use Rattle.paint.specs.Memories.{Memories, memories, memoryOf, withMemor
 -- the source operand of a drawing: 0, or for the pixel at x, y the pixel of a surface at fx x, fy y
 pub data Source : Type 0 where
   black : Source
-  taken : SurfaceId → (fx fy : ℕ → ℕ) → Source
+  sampled : SurfaceId → (fx fy : ℕ → ℕ) → Source
 
 -- A drawing: each pixel of `target` in `region` gets what the code's table gives of the pattern, the source operand and
 -- itself. A drawing without a code has the table of PATCOPY, 0xF0.
@@ -44,15 +44,15 @@ only u s = same s u
 
 abbrev pub operand : GdiState → Memories → Source → (x y : ℕ) → ℕ
 operand b ms black x y = 0
-operand b ms (taken s fx fy) x y = colourAt ms (whereIs b s) (fx x) (fy y)
+operand b ms (sampled s fx fy) x y = colourAt ms (whereIs b s) (fx x) (fy y)
 
 -- a drawing on the bytes of a surface that is w wide, s being the source operand
-abbrev pub drawn : Draw → (s : ℕ → ℕ → ℕ) → (w : ℕ) → List ℕ → List ℕ
-drawn d s w m = painted (wordsOf w (d .region)) (λ i. applied (d .table) (d .pattern) (s (i % w) (i / w)) (word m i)) m
+abbrev pub drawnBytes : Draw → (s : ℕ → ℕ → ℕ) → (w : ℕ) → List ℕ → List ℕ
+drawnBytes d s w m = painted (wordsOf w (d .region)) (λ i. applied (d .table) (d .pattern) (s (i % w) (i / w)) (word m i)) m
 
 -- the memories after a paint
 unfoldable pub paintedBy : GdiState → Paint → Memories → Memories
-paintedBy b (draw d) ms = over (whereIs b (d .target)) (drawn d (operand b ms (d .source)) (widthOf (whereIs b (d .target)))) ms
+paintedBy b (draw d) ms = over (whereIs b (d .target)) (drawnBytes d (operand b ms (d .source)) (widthOf (whereIs b (d .target)))) ms
 paintedBy b (blank m p n clears) ms = withMemory ms m (blanked (memoryOf ms m) p n)
 paintedBy b (close h p n used) ms = memories (ms .panel) (closedUp 0 (ms .store) p n used)
 

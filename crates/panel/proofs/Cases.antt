@@ -7,8 +7,8 @@ use native.Mathlib.Nat.{mul-le-mul}
 use native.Mathlib.Omega.{arith}
 use lib.ListN.{length}
 use borrow.Author.Tests.{le-ltb, lt-ltb}
-use Rattle.laws.specs.Interval.{between}
-use Rattle.laws.proofs.Test.{and-true}
+use Rattle.arithmetic.specs.Interval.{between}
+use Rattle.arithmetic.proofs.Test.{and-true}
 use Rattle.words.specs.Parts.{part, withPart}
 use Rattle.words.specs.Words.{painted, word}
 use Rattle.words.proofs.Painted.{painted-same}
@@ -18,7 +18,7 @@ use Rattle.rop3.proofs.Codes.{applied-pattern}
 use Rattle.gdi.specs.declared.GdiState.{GdiState}
 use Rattle.gdi.specs.Record.{size}
 use Rattle.gdi.specs.Updates.{withSides}
-use Rattle.numbers.specs.View.{view, Stored}
+use Rattle.numbers.specs.View.{view, Updated}
 use Rattle.sound.specs.Sound.{isSound}
 use Rattle.sound.proofs.Sound.{parts}
 use Rattle.sound.proofs.Bytes.{area as sides-area}
@@ -28,7 +28,7 @@ use Rattle.dirty.specs.Dirty.{dirtied, dirtiedIf}
 use Rattle.paint.specs.Memories.{memories}
 use Rattle.paint.specs.Paint.{paintedBy, after}
 use Rattle.plan.specs.Answer.{done}
-use Rattle.plan.specs.Plan.{told, refuse}
+use Rattle.plan.specs.Plan.{recordOnly, refuse}
 use Rattle.plan.specs.Stroke.{dirtiedBy, paintsOf}
 use Rattle.plan.specs.Panel.{panelFill, resized, noEffect, resize}
 use Rattle.plan.specs.Followed.{Followed}
@@ -59,7 +59,7 @@ whole-panel m n c fits small =
 
 -- panel fill
 pub filled : (l : List ℕ) (panel : List ℕ) (c : ℕ) → isSound (view l) ≡ true → length panel ≡ view l .«panel_len» → c < 65536
-    → {l′ panel′ : List ℕ} → Stored l (dirtied (view l) Panel) l′ → panel′ ≡ painted (between 0 (0 + view l .width * view l .height)) (λ _. c) panel
+    → {l′ panel′ : List ℕ} → Updated l (dirtied (view l) Panel) l′ → panel′ ≡ painted (between 0 (0 + view l .width * view l .height)) (λ _. c) panel
     → (store : List ℕ) → Followed (panelFill (view l) c) l (memories panel store) done l′ (memories panel′ store)
 unfolding after paintedBy dirtiedBy paintsOf dirtiedIf
 filled l panel c sound len small marked bytes store =
@@ -68,7 +68,7 @@ filled l panel c sound len small marked bytes store =
 
 -- the plan of a resize: nothing to do, a side too long, memory too short, and the new size
 module _ (b : GdiState) (w h : ℕ) {t : Bool} (e : t ≡ noEffect b w h) where
-  pub same-size : t ≡ true → resize b w h ≡ told b done
+  pub same-size : t ≡ true → resize b w h ≡ recordOnly b done
   unfolding resize
   same-size f = rw (← e, f)
 
@@ -93,6 +93,6 @@ module _ (b : GdiState) (w h : ℕ) {t : Bool} (e : t ≡ noEffect b w h) where
 
 -- an effective resize
 pub sized : (l : List ℕ) (w h : ℕ) {panel panel′ l′ : List ℕ} → resize (view l) w h ≡ resized (view l) w h → panel′ ≡ blanked panel 0 (size w h)
-    → Stored l (dirtied (withSides (view l) w h) Panel) l′ → (store : List ℕ) → Followed (resize (view l) w h) l (memories panel store) done l′ (memories panel′ store)
+    → Updated l (dirtied (withSides (view l) w h) Panel) l′ → (store : List ℕ) → Followed (resize (view l) w h) l (memories panel store) done l′ (memories panel′ store)
 unfolding after paintedBy
 sized l w h e zeroed marked store = acceptance refl (rw e) marked (rw (e, zeroed))

@@ -7,13 +7,13 @@ use native.Mathlib.Omega.{arith}
 use lib.Dec.{eqb}
 use lib.ListN.{length, set, length-set}
 use lib.Seq.{getD-set-same, getD-set-other}
-use Rattle.laws.specs.Interval.{between}
+use Rattle.arithmetic.specs.Interval.{between}
 use Rattle.words.specs.Words.{painted}
 use Rattle.gdi.specs.declared.GdiState.{GdiState}
 use Rattle.gdi.specs.Updates.{withSides}
 use Rattle.numbers.specs.Layout.{widthPlace, heightPlace, stockDirtyPlace, countPlace}
 use Rattle.numbers.specs.Block.{at}
-use Rattle.numbers.specs.View.{view, isRecord, Stored}
+use Rattle.numbers.specs.View.{view, isRecord, Updated}
 use Rattle.numbers.proofs.Record.{parts}
 use Rattle.sound.specs.Sound.{isSound}
 use Rattle.place.specs.declared.SurfaceId.the-variants.{Panel}
@@ -21,9 +21,9 @@ use Rattle.dirty.specs.Dirty.{dirtied}
 use Rattle.dirty.proofs.Still.{dirtied-count}
 use Rattle.numbers.proofs.Updates.{sides-seen}
 use Rattle.numbers.proofs.Kept.{Kept, kept-all, kept-set, table-kept}
-use Rattle.dirty.proofs.Numbers.{screen, head-stored}
+use Rattle.dirty.proofs.Numbers.{screen, head-updated}
 use Rattle.plan.specs.Panel.{noEffect}
-use Rattle.plan.proofs.Followed.{stored-twice}
+use Rattle.plan.proofs.Followed.{updated-twice}
 use Rattle.panel.proofs.Cases.{panel-area, panel-fits}
 
 module _ (l : List ℕ) (r : isRecord l ≡ true) (w h : ℕ) where
@@ -47,13 +47,13 @@ module _ (l : List ℕ) (r : isRecord l ≡ true) (w h : ℕ) where
       sides-seen l sized (screen l sized r kept (omega arith)) (table-kept l sized r kept (omega arith) (other countPlace (λ a b. omega arith)))
       (λ k h a b. other k (λ x y. omega arith)) first second
 
-  pub sides-set : Stored l (withSides (view l) w h) sized
+  pub sides-set : Updated l (withSides (view l) w h) sized
   unfolding view
-  sides-set = head-stored l sized r kept (omega arith) seen refl (omega (arith, other stockDirtyPlace (λ a b. omega arith), parts l r .flag))
+  sides-set = head-updated l sized r kept (omega arith) seen refl (omega (arith, other stockDirtyPlace (λ a b. omega arith), parts l r .flag))
 
 -- sides, and then a mark
-pub sized-marked : {l l₁ l′ : List ℕ} (w h : ℕ) → Stored l (withSides (view l) w h) l₁ → Stored l₁ (dirtied (view l₁) Panel) l′ → Stored l (dirtied (withSides (view l) w h) Panel) l′
-sized-marked {l} {l₁} {l′} w h s t = stored-twice (dirtied-count (withSides (view l) w h) Panel) s (subst (λ (b : GdiState). Stored l₁ (dirtied b Panel) l′) (s .same) t)
+pub sized-marked : {l l₁ l′ : List ℕ} (w h : ℕ) → Updated l (withSides (view l) w h) l₁ → Updated l₁ (dirtied (view l₁) Panel) l′ → Updated l (dirtied (withSides (view l) w h) Panel) l′
+sized-marked {l} {l₁} {l′} w h s t = updated-twice (dirtied-count (withSides (view l) w h) Panel) s (subst (λ (b : GdiState). Updated l₁ (dirtied b Panel) l′) (s .same) t)
 
 -- the panel of a sound record, by its numbers
 module _ (l : List ℕ) (sound : isSound (view l) ≡ true) where

@@ -5,7 +5,7 @@ ghost use lib.Dec.{eqb};
 ghost use lib.ListN.{length};
 ghost use Rattle.plan.specs.Panel.{panelFill, resize};
 ghost use Rattle.gdi.specs.Updates.{withSides};
-ghost use Rattle.numbers.specs.View.{view, isRecord, Stored};
+ghost use Rattle.numbers.specs.View.{view, isRecord, Updated};
 ghost use Rattle.ready.proofs.Ready.{Lent};
 ghost use Rattle.paint.specs.Memories.{memories};
 ghost use mathlib.Core.List.{List};
@@ -26,22 +26,22 @@ use surface::MAX_SIDE;
 pub const PANEL_TOO_SHORT: u32 = 7;
 
 // The whole panel in one colour.
-pub fn fill(l: &mut [u32], panel: &mut [u8], color: Rgb565) -> Answer
-    requires { ⌜ Lent (now l) (length (now panel)) (view (now l) .«store_len») ⌝ }
-    ensures { λ r. ⌜ ((store : List ℕ) → Followed (panelFill (view (now (l .entry))) (color .0)) (now (l .entry)) (memories (now (panel .entry)) store) (partsOf r) (now (l .exit)) (memories (now (panel .exit)) store)) ⌝ }
+pub fn fill(numbers: &mut [u32], panel: &mut [u8], color: Rgb565) -> Answer
+    requires { ⌜ Lent (now numbers) (length (now panel)) (view (now numbers) .«store_len») ⌝ }
+    ensures { λ r. ⌜ ((store : List ℕ) → Followed (panelFill (view (now (numbers .entry))) (color .0)) (now (numbers .entry)) (memories (now (panel .entry)) store) (partsOf r) (now (numbers .exit)) (memories (now (panel .exit)) store)) ⌝ }
 {
-    let n = (l[WIDTH] * l[HEIGHT]) as usize;
+    let n = (numbers[WIDTH] * numbers[HEIGHT]) as usize;
     runs::fill_run(panel, 0, n, color.0);
-    dirty::mark_dirty(l, SurfaceId::Panel, Found::Nothing);
+    dirty::mark_dirty(numbers, SurfaceId::Panel, Found::Nothing);
     Answer::Drawn
 }
 
 // The panel at another size, black. A side of 0 or the present size does nothing.
-pub fn resize(l: &mut [u32], panel: &mut [u8], width: u32, height: u32) -> Answer
-    requires { ⌜ Lent (now l) (length (now panel)) (view (now l) .«store_len») ⌝ }
-    ensures { λ r. ⌜ ((store : List ℕ) → Followed (resize (view (now (l .entry))) width height) (now (l .entry)) (memories (now (panel .entry)) store) (partsOf r) (now (l .exit)) (memories (now (panel .exit)) store)) ⌝ }
+pub fn resize(numbers: &mut [u32], panel: &mut [u8], width: u32, height: u32) -> Answer
+    requires { ⌜ Lent (now numbers) (length (now panel)) (view (now numbers) .«store_len») ⌝ }
+    ensures { λ r. ⌜ ((store : List ℕ) → Followed (resize (view (now (numbers .entry))) width height) (now (numbers .entry)) (memories (now (panel .entry)) store) (partsOf r) (now (numbers .exit)) (memories (now (panel .exit)) store)) ⌝ }
 {
-    if no_effect(width, height, l[WIDTH], l[HEIGHT]) {
+    if no_effect(width, height, numbers[WIDTH], numbers[HEIGHT]) {
         return Answer::Drawn;
     }
     if MAX_SIDE < width {
@@ -51,22 +51,22 @@ pub fn resize(l: &mut [u32], panel: &mut [u8], width: u32, height: u32) -> Answe
         return Answer::Refused(BAD_SIDE);
     }
     let n = 2 * ((width * height) as usize);
-    if (l[PANEL_LEN] as usize) < n {
+    if (numbers[PANEL_LEN] as usize) < n {
         return Answer::Refused(PANEL_TOO_SHORT);
     }
     memory::zero(panel, 0, n);
-    store_sides(l, width, height);
-    dirty::mark_dirty(l, SurfaceId::Panel, Found::Nothing);
+    set_sides(numbers, width, height);
+    dirty::mark_dirty(numbers, SurfaceId::Panel, Found::Nothing);
     Answer::Drawn
 }
 
 // Puts the panel's sides.
-fn store_sides(l: &mut [u32], width: u32, height: u32)
-    requires { ⌜ isRecord (now l) ≡ true ⌝ }
-    ensures { λ _. ⌜ Stored (now (l .entry)) (withSides (view (now (l .entry))) width height) (now (l .exit)) ⌝ }
+fn set_sides(numbers: &mut [u32], width: u32, height: u32)
+    requires { ⌜ isRecord (now numbers) ≡ true ⌝ }
+    ensures { λ _. ⌜ Updated (now (numbers .entry)) (withSides (view (now (numbers .entry))) width height) (now (numbers .exit)) ⌝ }
 {
-    l[WIDTH] = width;
-    l[HEIGHT] = height;
+    numbers[WIDTH] = width;
+    numbers[HEIGHT] = height;
 }
 
 // Whether a resize from these sides does nothing.

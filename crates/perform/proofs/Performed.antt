@@ -8,7 +8,7 @@ use lib.ListN.{length}
 use borrow.Author.Tests.{ne-eqb}
 use Rattle.numbers.specs.View.{view, isRecord}
 use Rattle.ready.specs.Ready.{commonRefusal, commonRefusalOn}
-use Rattle.ready.proofs.Ready.{Lent, looks, lent}
+use Rattle.ready.proofs.Ready.{Lent, ready-accepts, lent}
 use Rattle.paint.specs.Memories.{Memories}
 use Rattle.plan.specs.declared.Call.{Call}
 use Rattle.plan.specs.Answer.{Parts, refused}
@@ -38,7 +38,7 @@ module _ (c : Call) (us l : List ℕ) (ms : Memories) {no : ℕ} (e : no ≡ com
     module _ {v : Call} (is : c ≡ v) where
       looked : planOn c us l (length (ms .panel)) (length (ms .store)) ≡ act v us (view l)
       unfolding planOn plan
-      looked = rw (is, is-lent .is-record, looks (is-lent .ready))
+      looked = rw (is, is-lent .is-record, ready-accepts (is-lent .ready))
 
       pub performed : {a : Parts} {l′ : List ℕ} {ms′ : Memories} → Followed (act v us (view l)) l ms a l′ ms′ → Performed c us l ms a l′ ms′
       performed f = followed-as looked f

@@ -9,13 +9,13 @@ use place::Place;
 use place::Target;
 
 // Where the pixels of a DC lie; nowhere if a drawing on it would be refused.
-pub fn place_of(l: &[u32], panel_len: usize, store_len: usize, dc: u32) -> Place
-    ensures { λ r. ⌜ Found (now (l .entry)) «panel_len» «store_len» dc r ⌝ }
+pub fn place_of(numbers: &[u32], panel_len: usize, store_len: usize, dc: u32) -> Place
+    ensures { λ r. ⌜ Found (now (numbers .entry)) «panel_len» «store_len» dc r ⌝ }
 {
-    if ready::common_refusal(l, panel_len, store_len) != 0 {
+    if ready::common_refusal(numbers, panel_len, store_len) != 0 {
         return Place::Nowhere;
     }
-    match place::target_of(l, dc) {
+    match place::target_of(numbers, dc) {
         Target::NoDc => Place::Nowhere,
         Target::NoSurface => Place::Nowhere,
         Target::On(_, site, _) => site.at,
@@ -23,11 +23,16 @@ pub fn place_of(l: &[u32], panel_len: usize, store_len: usize, dc: u32) -> Place
 }
 
 // A DC's pixels, to be changed; no byte if a drawing on it would be refused with 9, 8, 1 or 2.
-pub fn pixels_mut<'a>(l: &[u32], panel: &'a mut [u8], store: &'a mut [u8], dc: u32) -> &'a mut [u8]
-    ensures { λ r. ⌜ now r ≡ pixelsOf (now (l .entry)) (memories (now (panel .entry)) (now (store .entry))) dc ⌝ }
-    ensures place { λ r. ⌜ ptr r ≡ pointerAt (ptr (panel .entry)) (ptr (store .entry)) (placeOf (now (l .entry)) (length (now (panel .entry))) (length (now (store .entry))) dc) ⌝ }
+pub fn pixels_mut<'a>(
+    numbers: &[u32],
+    panel: &'a mut [u8],
+    store: &'a mut [u8],
+    dc: u32,
+) -> &'a mut [u8]
+    ensures { λ r. ⌜ now r ≡ pixelsOf (now (numbers .entry)) (memories (now (panel .entry)) (now (store .entry))) dc ⌝ }
+    ensures place { λ r. ⌜ ptr r ≡ pointerAt (ptr (panel .entry)) (ptr (store .entry)) (placeOf (now (numbers .entry)) (length (now (panel .entry))) (length (now (store .entry))) dc) ⌝ }
 {
-    let at = place_of(l, panel.len(), store.len(), dc);
+    let at = place_of(numbers, panel.len(), store.len(), dc);
     match at {
         Place::Nowhere => &mut panel[0..0],
         Place::At(m, p, w, h) => {
@@ -41,11 +46,11 @@ pub fn pixels_mut<'a>(l: &[u32], panel: &'a mut [u8], store: &'a mut [u8], dc: u
 }
 
 // The same to be read.
-pub fn pixels<'a>(l: &[u32], panel: &'a [u8], store: &'a [u8], dc: u32) -> &'a [u8]
-    ensures { λ r. ⌜ now r ≡ pixelsOf (now (l .entry)) (memories (now (panel .entry)) (now (store .entry))) dc ⌝ }
-    ensures place { λ r. ⌜ ptr r ≡ pointerAt (ptr (panel .entry)) (ptr (store .entry)) (placeOf (now (l .entry)) (length (now (panel .entry))) (length (now (store .entry))) dc) ⌝ }
+pub fn pixels<'a>(numbers: &[u32], panel: &'a [u8], store: &'a [u8], dc: u32) -> &'a [u8]
+    ensures { λ r. ⌜ now r ≡ pixelsOf (now (numbers .entry)) (memories (now (panel .entry)) (now (store .entry))) dc ⌝ }
+    ensures place { λ r. ⌜ ptr r ≡ pointerAt (ptr (panel .entry)) (ptr (store .entry)) (placeOf (now (numbers .entry)) (length (now (panel .entry))) (length (now (store .entry))) dc) ⌝ }
 {
-    let at = place_of(l, panel.len(), store.len(), dc);
+    let at = place_of(numbers, panel.len(), store.len(), dc);
     match at {
         Place::Nowhere => &panel[0..0],
         Place::At(m, p, w, h) => {

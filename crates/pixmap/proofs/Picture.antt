@@ -9,7 +9,7 @@ use lib.Dec.{eqb, leb}
 use lib.ListN.{length, take, drop, length-drop, length-append}
 use lib.Seq.{take-all}
 use borrow.Author.Tests.{leb-true, eqb-true, ne-eqb}
-use Rattle.laws.proofs.Test.{both, not-left, not-right}
+use Rattle.arithmetic.proofs.Test.{both, not-left, not-right}
 use Rattle.bigendian.specs.BigEndian.{be16}
 use Rattle.p6.specs.P6.{ppmLength}
 use Rattle.p6.specs.Inner.{put}

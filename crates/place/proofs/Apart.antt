@@ -6,7 +6,7 @@ use Prim.Native.Nat.{ℕ, zero, suc, _+_, _≤_}
 use native.Mathlib.Omega.{arith}
 use lib.Dec.{eqb}
 use borrow.Author.Tests.{eqb-true, eq-eqb}
-use Rattle.laws.proofs.Sum.{sum-suc}
+use Rattle.arithmetic.proofs.Sum.{sum-suc}
 use Rattle.gdi.specs.declared.GdiState.{GdiState}
 use Rattle.gdi.specs.declared.Slot.{Slot}
 use Rattle.gdi.specs.declared.GdiObject.{GdiObject}
@@ -21,7 +21,7 @@ use Rattle.place.specs.declared.Place.{Place}
 use Rattle.place.specs.declared.Place.the-variants.{Nowhere, At}
 use Rattle.place.specs.declared.SurfaceId.{SurfaceId}
 use Rattle.place.specs.declared.SurfaceId.the-variants.{Panel, Bitmap}
-use Rattle.place.specs.Place.{same, slotsFrom, live, frameOf, locate, whereIs, Within}
+use Rattle.place.specs.Place.{same, slotsFrom, live, placeFrom, locate, whereIs, Within}
 use Rattle.place.proofs.Places.{object-within, placed-panel, placed-stock}
 
 pub clash {ℓ} : {A : Type ℓ} → false ≡ true → A
@@ -49,7 +49,7 @@ pub data From (p : ℕ) : Place → Type 0 where
   nothing : From p Nowhere
   some : {q w h : ℕ} → p ≤ q → From p (At Store q w h)
 
-frame-from : (o : GdiObject) (p q : ℕ) → q ≤ p → From q (frameOf o p)
+frame-from : (o : GdiObject) (p q : ℕ) → q ≤ p → From q (placeFrom o p)
 frame-from (DcOf d) p q le = nothing
 frame-from (BitmapOf m) p q le = some le
 frame-from (Brush x) p q le = nothing
@@ -64,11 +64,11 @@ locate-from (s ∷ l) p q h le = by (eqb (s .handle) h) (locate-from l (p + byte
     rest : Place
     rest = locate l (p + bytesOf (s .object)) h
 
-    by : (t : Bool) → From q rest → From q (cond t (frameOf (s .object) p) rest)
+    by : (t : Bool) → From q rest → From q (cond t (placeFrom (s .object) p) rest)
     by true later = frame-from (s .object) p q le
     by false later = later
 
-frame-before : (o : GdiObject) (p : ℕ) (v : Place) → From (p + bytesOf o) v → Apart (frameOf o p) v
+frame-before : (o : GdiObject) (p : ℕ) (v : Place) → From (p + bytesOf o) v → Apart (placeFrom o p) v
 frame-before (DcOf d) p v f = no-first
 frame-before (BitmapOf m) p _ nothing = no-second
 frame-before (BitmapOf m) p _ (some le) = before le
@@ -87,7 +87,7 @@ located-apart (s ∷ l) p h k ne =
     rest g = locate l (p + bytesOf (s .object)) g
 
     by : (t u : Bool) → eqb (s .handle) h ≡ t → eqb (s .handle) k ≡ u → Apart (rest h) (rest k)
-        → Apart (cond t (frameOf (s .object) p) (rest h)) (cond u (frameOf (s .object) p) (rest k))
+        → Apart (cond t (placeFrom (s .object) p) (rest h)) (cond u (placeFrom (s .object) p) (rest k))
     by true true e f later = clash (sym ne ∙ eq-eqb h k (sym (eqb-true _ _ e) ∙ eqb-true _ _ f))
     by true false e f later = frame-before (s .object) p _ (locate-from l _ _ k (omega arith))
     by false true e f later = turn (frame-before (s .object) p _ (locate-from l _ _ h (omega arith)))
@@ -135,7 +135,7 @@ locate-within b s h (suc m) i p e q =
     rest = locate (slotsFrom (b .objects) (suc i) m) (p + bytesOf (objectAt b i)) h
 
     by : (t : Bool) → Within (b .«panel_len») (b .«store_len») rest
-        → Within (b .«panel_len») (b .«store_len») (cond t (frameOf (objectAt b i) p) rest)
+        → Within (b .«panel_len») (b .«store_len») (cond t (placeFrom (objectAt b i) p) rest)
     by true later = object-within b s i p (omega arith) q
     by false later = later
 

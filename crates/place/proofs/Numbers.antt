@@ -25,17 +25,17 @@ use Rattle.place.specs.declared.Place.the-variants.{Nowhere, At}
 use Rattle.place.specs.declared.Site.{Site}
 use Rattle.place.specs.declared.SurfaceId.{SurfaceId}
 use Rattle.place.specs.declared.SurfaceId.the-variants.{Panel}
-use Rattle.place.specs.Place.{live, frameOf, locate}
-use Rattle.place.specs.Inner.{Located, Placed}
+use Rattle.place.specs.Place.{live, placeFrom, locate}
+use Rattle.place.specs.Inner.{Located, SiteFound}
 use Rattle.place.proofs.Places.{locatedFrom, start as at-start, miss, end, site, located, placed-panel}
 
 module _ (l : List ℕ) (p start : ℕ) where
-  pub frame-bitmap : at l (p + kindPlace) ≡ 1 → At Store start (at l (p + objectPlace)) (at l (p + bitmapHeightPlace)) ≡ frameOf (objectFrom l p) start
+  pub frame-bitmap : at l (p + kindPlace) ≡ 1 → At Store start (at l (p + objectPlace)) (at l (p + bitmapHeightPlace)) ≡ placeFrom (objectFrom l p) start
   frame-bitmap e = rw (object-bitmap (at l (p + kindPlace)) (part l (p + objectPlace) objectSize) e, part-first l (p + objectPlace), part-second l p)
 
-  pub frame-other : (at l (p + kindPlace) ≡ 1 → ⊥) → Nowhere ≡ frameOf (objectFrom l p) start
+  pub frame-other : (at l (p + kindPlace) ≡ 1 → ⊥) → Nowhere ≡ placeFrom (objectFrom l p) start
   frame-other b =
-      by-kind (at l (p + kindPlace)) (part l (p + objectPlace) objectSize) (λ o. Nowhere ≡ frameOf o start) (λ e. refl) (λ e. absurd (b e)) (λ x. refl) (λ x. refl) (λ x. refl)
+      by-kind (at l (p + kindPlace)) (part l (p + objectPlace) objectSize) (λ o. Nowhere ≡ placeFrom o start) (λ e. refl) (λ e. absurd (b e)) (λ x. refl) (λ x. refl) (λ x. refl)
 
 -- what the search from i on finds, where pixels start, is what the whole search finds
 pub record Sought (l : List ℕ) (h i start : ℕ) : Type 0 where
@@ -56,11 +56,11 @@ module _ (l : List ℕ) (r : isRecord l ≡ true) (s : isSound (view l) ≡ true
 
     module _ {h start : ℕ} (inv : Sought l h i start) where
       -- the object of the handle was found at i, where pixels start
-      pub located-seen : {q : Place} → at l (slotPlace i) ≡ h → q ≡ frameOf (objectFrom l (slotPlace i)) start → Located (view l) h (site q (InSlot i))
+      pub located-seen : {q : Place} → at l (slotPlace i) ≡ h → q ≡ placeFrom (objectFrom l (slotPlace i)) start → Located (view l) h (site q (InSlot i))
       located-seen f g =
           let e = handle-seen l r i lt ∙ f in
           located (view l) s h i start below e (inv .begin) (inv .place) (sym (scan-hit _ _ _ _ below e) ∙ inv .slot)
-          (g ∙ ap (λ (o : GdiObject). frameOf o start) (sym (object-seen l r i lt)))
+          (g ∙ ap (λ (o : GdiObject). placeFrom o start) (sym (object-seen l r i lt)))
 
       module _ {x : ℕ} (b : x ≡ bytesOf (objectFrom l (slotPlace i))) where
         pub next-small : start + x ≤ 33554432
@@ -83,6 +83,6 @@ end-seen l {h} {i} {start} le inv e =
     let past : view l .count ≤ i = rw (count-seen l) le in
     rw e (record { same = ap₂ site (end (view l) h i start past ∙ inv .place) (sym (scan-end _ _ _ _ past) ∙ inv .slot); within = tt })
 
-pub panel-seen : (l : List ℕ) {u : SurfaceId} {q : Site} → isSound (view l) ≡ true → u ≡ Panel → q ≡ site (At PanelMemory 0 (at l widthPlace) (at l heightPlace)) Nothing → Placed (view l) u q
+pub panel-seen : (l : List ℕ) {u : SurfaceId} {q : Site} → isSound (view l) ≡ true → u ≡ Panel → q ≡ site (At PanelMemory 0 (at l widthPlace) (at l heightPlace)) Nothing → SiteFound (view l) u q
 unfolding view
 panel-seen l s e f = rw f (placed-panel (view l) s e)

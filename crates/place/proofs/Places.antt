@@ -6,7 +6,7 @@ use native.Mathlib.Nat.{mul-le-mul}
 use native.Mathlib.Numerals.{add-one}
 use native.Mathlib.Omega.{arith}
 use borrow.Author.Tests.{eq-eqb, ne-eqb}
-use Rattle.laws.proofs.Test.{both}
+use Rattle.arithmetic.proofs.Test.{both}
 use Rattle.surface.specs.Refusal.{side}
 use Rattle.surface.proofs.Accepted.{side-range}
 use Rattle.gdi.specs.declared.GdiState.{GdiState}
@@ -26,8 +26,8 @@ use Rattle.place.specs.declared.Place.the-variants.{Nowhere, At}
 use Rattle.place.specs.declared.Site.{Site}
 use Rattle.place.specs.declared.SurfaceId.{SurfaceId}
 use Rattle.place.specs.declared.SurfaceId.the-variants.{Panel, Bitmap}
-use Rattle.place.specs.Place.{slotsFrom, live, frameOf, locate, lengthOf, Inside, Within}
-use Rattle.place.specs.Inner.{Located, Placed}
+use Rattle.place.specs.Place.{slotsFrom, live, placeFrom, locate, lengthOf, Inside, Within}
+use Rattle.place.specs.Inner.{Located, SiteFound}
 
 -- what is located among the slots from i on, if their pixels lie from byte p on
 abbrev pub locatedFrom : GdiState → (h i p : ℕ) → Place
@@ -39,7 +39,7 @@ module _ (b : GdiState) (h i p : ℕ) where
     less : b .count - i ≡ suc (b .count - (i + 1))
     less = omega arith
 
-    pub hit : handleAt (b .objects) i ≡ h → locatedFrom b h i p ≡ frameOf (objectAt b i) p
+    pub hit : handleAt (b .objects) i ≡ h → locatedFrom b h i p ≡ placeFrom (objectAt b i) p
     unfolding slotsFrom locate
     hit e = rw (less, eq-eqb _ _ e)
 
@@ -56,23 +56,23 @@ pub start : (b : GdiState) (h : ℕ) → locatedFrom b h 0 2 ≡ locate (live b)
 start b h = let m : b .count - 0 ≡ b .count = omega arith in rw m
 
 -- a place inside its memory, by its sides
-inside : {len p w h : ℕ} → side w ≡ true → side h ≡ true → p + size w h ≤ len → Inside len p w h
-inside {len} {p} {w} {h} a b le =
+fits-inside : {len p w h : ℕ} → side w ≡ true → side h ≡ true → p + size w h ≤ len → Inside len p w h
+fits-inside {len} {p} {w} {h} a b le =
     let x = side-range w a in
     let y = side-range h b in
     record { fits = le; some = x .0; wide = x .1; some-rows = y .0; high = y .1 }
 
 -- the frame of an object that fits and has room
-pub frame-within : (o : GdiObject) (n k p : ℕ) → objectFits o ≡ true → p + bytesOf o ≤ k → Within n k (frameOf o p)
+pub frame-within : (o : GdiObject) (n k p : ℕ) → objectFits o ≡ true → p + bytesOf o ≤ k → Within n k (placeFrom o p)
 frame-within (DcOf d) n k p e le = tt
-frame-within (BitmapOf m) n k p e le = let s = both (side (m .width)) (side (m .height)) e in inside (s .0) (s .1) le
+frame-within (BitmapOf m) n k p e le = let s = both (side (m .width)) (side (m .height)) e in fits-inside (s .0) (s .1) le
 frame-within (Brush x) n k p e le = tt
 frame-within (Pen x) n k p e le = tt
 frame-within (Font x) n k p e le = tt
 
 -- object i of a sound record lies inside the store
 pub object-within : (b : GdiState) → isSound b ≡ true → (i p : ℕ) → i < b .count → p ≡ startOf b i
-    → Within (b .«panel_len») (b .«store_len») (frameOf (objectAt b i) p)
+    → Within (b .«panel_len») (b .«store_len») (placeFrom (objectAt b i) p)
 object-within b s i p lt e =
     let q = parts b s in
     frame-within (objectAt b i) _ _ p (fits-at q i lt) (omega (arith, e, q .store, room q i lt))
@@ -82,7 +82,7 @@ site at slot = record { at = at; slot = slot }
 
 -- the object of the handle was found at i, where pixels start at p
 pub located : (b : GdiState) → isSound b ≡ true → (h i p : ℕ) {r : Place} → i < b .count → handleAt (b .objects) i ≡ h
-    → p ≡ startOf b i → locatedFrom b h i p ≡ locate (live b) 2 h → InSlot i ≡ findOf b h → r ≡ frameOf (objectAt b i) p → Located b h (record { at = r; slot = InSlot i })
+    → p ≡ startOf b i → locatedFrom b h i p ≡ locate (live b) 2 h → InSlot i ≡ findOf b h → r ≡ placeFrom (objectAt b i) p → Located b h (record { at = r; slot = InSlot i })
 located b s h i p lt e q inv g f =
     record {
       same = ap₂ site (f ∙ sym (hit b h i p lt e) ∙ inv) g;
@@ -91,13 +91,13 @@ located b s h i p lt e q inv g f =
 
 -- the cases of a surface's place
 module _ (b : GdiState) (sound : isSound b ≡ true) {u : SurfaceId} where
-  pub placed-panel : u ≡ Panel → Placed b u (site (At PanelMemory 0 (b .width) (b .height)) Nothing)
-  placed-panel e = let q = parts b sound in record { same = rw e; within = inside (q .width) (q .height) (omega (arith, q .panel)) }
+  pub placed-panel : u ≡ Panel → SiteFound b u (site (At PanelMemory 0 (b .width) (b .height)) Nothing)
+  placed-panel e = let q = parts b sound in record { same = rw e; within = fits-inside (q .width) (q .height) (omega (arith, q .panel)) }
 
-  pub placed-stock : {h : ℕ} → u ≡ Bitmap h → h ≡ stockBitmap → Placed b u (site (At Store 0 1 1) Nothing)
+  pub placed-stock : {h : ℕ} → u ≡ Bitmap h → h ≡ stockBitmap → SiteFound b u (site (At Store 0 1 1) Nothing)
   placed-stock e f = record { same = rw (e, eq-eqb _ _ f); within = omega (arith, parts b sound .store) }
 
-  pub placed-created : {h : ℕ} {r : Site} → u ≡ Bitmap h → (h ≡ stockBitmap → ⊥) → Located b h r → Placed b u r
+  pub placed-created : {h : ℕ} {r : Site} → u ≡ Bitmap h → (h ≡ stockBitmap → ⊥) → Located b h r → SiteFound b u r
   placed-created e ne l = record { same = rw (e, ne-eqb _ _ ne) (l .same); within = l .within }
 
 -- a surface's pixels can be counted

@@ -5,8 +5,8 @@ use mathlib.Core.Path.{_≡_, refl, sym, _∙_, ap}
 use Prim.Native.Nat.{ℕ, zero, suc, _+_}
 use lib.Dec.{eqb}
 use lib.ListN.{getD, set}
-use Rattle.laws.proofs.Test.{all-same}
-use Rattle.laws.proofs.Sum.{sum-same}
+use Rattle.arithmetic.proofs.Test.{all-same}
+use Rattle.arithmetic.proofs.Sum.{sum-same}
 use Rattle.gdi.specs.declared.Dc.{Dc}
 use Rattle.gdi.specs.declared.DcFound.the-variants.{Is}
 use Rattle.gdi.specs.declared.GdiObject.the-variants.{Dc as DcOf}
@@ -15,7 +15,7 @@ use Rattle.gdi.specs.declared.Slot.{Slot}
 use Rattle.gdi.specs.declared.Spot.{Spot}
 use Rattle.gdi.specs.declared.Spot.the-variants.{Screen, Created}
 use Rattle.gdi.specs.Record.{noSlot, bytesOf}
-use Rattle.gdi.specs.Updates.{withObjects, storeOf}
+use Rattle.gdi.specs.Updates.{withObjects, withDc}
 use Rattle.gdi.specs.Stock.{stockBitmap}
 use Rattle.gdi.specs.Lookup.{slotAt, handleAt, objectAt, dcOf}
 use Rattle.gdi.proofs.Scan.{scan-handle, dc-found}
@@ -25,7 +25,7 @@ use Rattle.place.specs.declared.Place.{Place}
 use Rattle.place.specs.declared.Place.the-variants.{At}
 use Rattle.place.specs.declared.SurfaceId.{SurfaceId}
 use Rattle.place.specs.declared.SurfaceId.the-variants.{Panel, Bitmap}
-use Rattle.place.specs.Place.{slotsFrom, frameOf, locate, whereIs}
+use Rattle.place.specs.Place.{slotsFrom, placeFrom, locate, whereIs}
 
 -- every surface of the second record lies where it lies in the first
 abbrev pub SamePlaces : GdiState → GdiState → Type 0
@@ -53,7 +53,7 @@ still-then s t =
 -- a slot that keeps what places depend on
 pub record Kept (s t : Slot) : Type 0 where
   pub handle : s .handle ≡ t .handle
-  pub frame : (p : ℕ) → frameOf (s .object) p ≡ frameOf (t .object) p
+  pub frame : (p : ℕ) → placeFrom (s .object) p ≡ placeFrom (t .object) p
   pub bytes : bytesOf (s .object) ≡ bytesOf (t .object)
 
 -- a list with one slot changed that keeps f
@@ -69,7 +69,7 @@ pub set-kept : (l : List Slot) (i : ℕ) (s : Slot) → Kept s (getD l i noSlot)
 set-kept l i s k j =
     record {
       handle = set-same (λ t. t .handle) l i s (k .handle) j;
-      frame = λ p. set-same (λ t. frameOf (t .object) p) l i s (k .frame p) j;
+      frame = λ p. set-same (λ t. placeFrom (t .object) p) l i s (k .frame p) j;
       bytes = set-same (λ t. bytesOf (t .object)) l i s (k .bytes) j;
     }
 
@@ -122,19 +122,19 @@ module _ (b : GdiState) (dc : ℕ) {i : ℕ} {d₀ : Dc} (d : Dc) (e : dcOf b dc
 
 module _ (b : GdiState) (dc : ℕ) {p : Spot} {d₀ : Dc} (d : Dc) where
   -- selection and settings leave every surface where it was
-  pub stored-places : dcOf b dc ≡ Is p d₀ → SamePlaces b (storeOf b dc p d)
-  stored-places = by p
+  pub updated-places : dcOf b dc ≡ Is p d₀ → SamePlaces b (withDc b dc p d)
+  updated-places = by p
     where
-      by : (q : Spot) → dcOf b dc ≡ Is q d₀ → SamePlaces b (storeOf b dc q d)
+      by : (q : Spot) → dcOf b dc ≡ Is q d₀ → SamePlaces b (withDc b dc q d)
       by Screen e Panel = refl
       by Screen e (Bitmap h) = refl
       by (Created i) e u = kept-places b (b .«next_handle») (set (b .objects) i (dcSlot dc d)) (dc-kept b dc d e) u
 
   -- and the record sound
-  pub stored-sound : isSound b ≡ true → dcOf b dc ≡ Is p d₀ → d .surface ≡ d₀ .surface → isSound (storeOf b dc p d) ≡ true
+  pub updated-sound : isSound b ≡ true → dcOf b dc ≡ Is p d₀ → d .surface ≡ d₀ .surface → isSound (withDc b dc p d) ≡ true
   unfolding isSound
-  stored-sound s e f = by p e ∙ s
+  updated-sound s e f = by p e ∙ s
     where
-      by : (q : Spot) → dcOf b dc ≡ Is q d₀ → isSound (storeOf b dc q d) ≡ isSound b
+      by : (q : Spot) → dcOf b dc ≡ Is q d₀ → isSound (withDc b dc q d) ≡ isSound b
       by Screen e = refl
       by (Created i) e = kept-sound b (b .«next_handle») (set (b .objects) i (dcSlot dc d)) (dc-kept b dc d e) (dc-fits b dc d e f)

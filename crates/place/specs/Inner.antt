@@ -14,6 +14,6 @@ pub record Located (b : GdiState) (h : ℕ) (r : Site) : Type 0 where
   pub within : Within (b .«panel_len») (b .«store_len») (r .at)
 
 -- a surface's site was found, inside its memory
-pub record Placed (b : GdiState) (s : SurfaceId) (r : Site) : Type 0 where
+pub record SiteFound (b : GdiState) (s : SurfaceId) (r : Site) : Type 0 where
   pub same : r ≡ siteOf b s
   pub within : Within (b .«panel_len») (b .«store_len») (r .at)

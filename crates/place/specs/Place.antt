@@ -46,17 +46,17 @@ abbrev pub live : GdiState → List Slot
 live b = slotsFrom (b .objects) 0 (b .count)
 
 -- the place of an object whose pixels start at byte p of the store: only a bitmap has one
-abbrev pub frameOf : GdiObject → ℕ → Place
-frameOf (DcOf d) p = Nowhere
-frameOf (BitmapOf m) p = At Store p (m .width) (m .height)
-frameOf (Brush x) p = Nowhere
-frameOf (Pen x) p = Nowhere
-frameOf (Font x) p = Nowhere
+abbrev pub placeFrom : GdiObject → ℕ → Place
+placeFrom (DcOf d) p = Nowhere
+placeFrom (BitmapOf m) p = At Store p (m .width) (m .height)
+placeFrom (Brush x) p = Nowhere
+placeFrom (Pen x) p = Nowhere
+placeFrom (Font x) p = Nowhere
 
 -- where the bitmap h lies: the list's bitmaps follow each other in order without a gap, from byte p on
 unfoldable pub locate : List Slot → (p h : ℕ) → Place
 locate [] p h = Nowhere
-locate (s ∷ l) p h = cond (eqb (s .handle) h) (frameOf (s .object) p) (locate l (p + bytesOf (s .object)) h)
+locate (s ∷ l) p h = cond (eqb (s .handle) h) (placeFrom (s .object) p) (locate l (p + bytesOf (s .object)) h)
 
 -- The panel lies at the start of the panel memory. The stock bitmap has store bytes 0 and 1; created bitmaps follow.
 abbrev pub whereIs : GdiState → SurfaceId → Place

@@ -1,4 +1,4 @@
-// Where a surface lies in the two memories, and which surface a DC paints, read from the numbers of a bench record.
+// Where a surface lies in the two memories, and which surface a DC paints, read from the numbers of a device record.
 ghost use mathlib.Core.Path.{_≡_};
 ghost use mathlib.Core.Bool.{true};
 ghost use Prim.Native.Nat.{_+_, _≤_};
@@ -9,8 +9,8 @@ ghost use Rattle.numbers.specs.Block.{at, objectOf};
 ghost use Rattle.numbers.specs.View.{view, isRecord};
 ghost use Rattle.sound.specs.Sound.{isSound};
 ghost use Rattle.gdi.specs.declared.Found.the-variants.{Nothing};
-ghost use Rattle.place.specs.Place.{frameOf, targetOf};
-ghost use Rattle.place.specs.Inner.{Located, Placed};
+ghost use Rattle.place.specs.Place.{placeFrom, targetOf};
+ghost use Rattle.place.specs.Inner.{Located, SiteFound};
 use gdi::Dc;
 use gdi::DcFound;
 use gdi::Found;
@@ -58,35 +58,40 @@ pub enum Target {
 }
 
 // The place of the object whose slot stands from number p on, if its pixels start at byte start of the store.
-fn frame(l: &[u32], p: usize, start: usize) -> Place
-    requires { ⌜ p + slotSize ≤ length (now l) ⌝ }
-    ensures { λ r. ⌜ r ≡ frameOf (objectOf (at (now (l .entry)) (p + kindPlace)) (part (now (l .entry)) (p + objectPlace) objectSize)) start ⌝ }
+fn frame(numbers: &[u32], p: usize, start: usize) -> Place
+    requires { ⌜ p + slotSize ≤ length (now numbers) ⌝ }
+    ensures { λ r. ⌜ r ≡ placeFrom (objectOf (at (now (numbers .entry)) (p + kindPlace)) (part (now (numbers .entry)) (p + objectPlace) objectSize)) start ⌝ }
 {
-    if l[p + KIND] != 1 {
+    if numbers[p + KIND] != 1 {
         return Place::Nowhere;
     }
-    Place::At(Memory::Store, start, l[p + OBJECT], l[p + BITMAP_HEIGHT])
+    Place::At(
+        Memory::Store,
+        start,
+        numbers[p + OBJECT],
+        numbers[p + BITMAP_HEIGHT],
+    )
 }
 
 // Where the created bitmap of this handle lies.
-fn locate(l: &[u32], handle: u32) -> Site
-    requires { ⌜ isRecord (now l) ≡ true ⌝ }
-    requires { ⌜ isSound (view (now l)) ≡ true ⌝ }
-    ensures { λ r. ⌜ Located (view (now (l .entry))) handle r ⌝ }
+fn locate(numbers: &[u32], handle: u32) -> Site
+    requires { ⌜ isRecord (now numbers) ≡ true ⌝ }
+    requires { ⌜ isSound (view (now numbers)) ≡ true ⌝ }
+    ensures { λ r. ⌜ Located (view (now (numbers .entry))) handle r ⌝ }
 {
-    let n = l[COUNT] as usize;
+    let n = numbers[COUNT] as usize;
     let mut i: usize = 0;
     let mut start: usize = 2;
     while i < n {
         let p = SLOTS + SLOT * i;
-        if l[p] == handle {
-            let at = frame(l, p, start);
+        if numbers[p] == handle {
+            let at = frame(numbers, p, start);
             return Site {
                 at,
                 slot: Found::At(i),
             };
         }
-        start += sound::bytes_of(l, p);
+        start += sound::bytes_of(numbers, p);
         i += 1;
     }
     untabled(Place::Nowhere)
@@ -103,32 +108,32 @@ fn untabled(at: Place) -> Site
 }
 
 // Where a surface lies.
-pub fn where_is(l: &[u32], id: SurfaceId) -> Site
-    requires { ⌜ isRecord (now l) ≡ true ⌝ }
-    requires { ⌜ isSound (view (now l)) ≡ true ⌝ }
-    ensures { λ r. ⌜ Placed (view (now (l .entry))) id r ⌝ }
+pub fn where_is(numbers: &[u32], id: SurfaceId) -> Site
+    requires { ⌜ isRecord (now numbers) ≡ true ⌝ }
+    requires { ⌜ isSound (view (now numbers)) ≡ true ⌝ }
+    ensures { λ r. ⌜ SiteFound (view (now (numbers .entry))) id r ⌝ }
 {
     match id {
-        SurfaceId::Panel => untabled(Place::At(Memory::Panel, 0, l[WIDTH], l[HEIGHT])),
+        SurfaceId::Panel => untabled(Place::At(Memory::Panel, 0, numbers[WIDTH], numbers[HEIGHT])),
         SurfaceId::Bitmap(h) => {
             if h == STOCK_DEFAULT_BITMAP {
                 return untabled(Place::At(Memory::Store, 0, 1, 1));
             }
-            locate(l, h)
+            locate(numbers, h)
         }
     }
 }
 
 // The surface that a DC paints.
-pub fn target_of(l: &[u32], dc: u32) -> Target
-    requires { ⌜ isRecord (now l) ≡ true ⌝ }
-    requires { ⌜ isSound (view (now l)) ≡ true ⌝ }
-    ensures { λ r. ⌜ r ≡ targetOf (view (now (l .entry))) dc ⌝ }
+pub fn target_of(numbers: &[u32], dc: u32) -> Target
+    requires { ⌜ isRecord (now numbers) ≡ true ⌝ }
+    requires { ⌜ isSound (view (now numbers)) ≡ true ⌝ }
+    ensures { λ r. ⌜ r ≡ targetOf (view (now (numbers .entry))) dc ⌝ }
 {
-    match lookup::find_dc(l, dc) {
+    match lookup::find_dc(numbers, dc) {
         DcFound::Is(p, d) => match p {
             Spot::Screen => {
-                let site = where_is(l, SurfaceId::Panel);
+                let site = where_is(numbers, SurfaceId::Panel);
                 Target::On(SurfaceId::Panel, site, d)
             }
             Spot::Created(_) => {
@@ -137,7 +142,7 @@ pub fn target_of(l: &[u32], dc: u32) -> Target
                     SelectedBitmap::Unset => Target::NoSurface,
                     SelectedBitmap::Chosen(h) => {
                         let s = SurfaceId::Bitmap(h);
-                        let site = where_is(l, s);
+                        let site = where_is(numbers, s);
                         let at = site.at;
                         match at {
                             Place::Nowhere => Target::NoSurface,

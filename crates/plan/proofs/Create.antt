@@ -5,14 +5,14 @@ use Prim.Native.Nat.{ℕ, _+_, _<_, _≤_}
 use native.Mathlib.Omega.{arith}
 use lib.Dec.{eqb}
 use borrow.Author.Tests.{eqb-false, le-leb, lt-leb, le-ltb, lt-ltb}
-use Rattle.laws.proofs.Test.{together}
+use Rattle.arithmetic.proofs.Test.{together}
 use Rattle.surface.specs.Refusal.{side}
 use Rattle.gdi.specs.declared.GdiState.{GdiState}
 use Rattle.gdi.specs.declared.GdiObject.{GdiObject}
 use Rattle.gdi.specs.Record.{bytesOf}
 use Rattle.sound.specs.Sound.{objectFits, used}
 use Rattle.plan.specs.Plan.{refuse}
-use Rattle.plan.specs.Create.{made, createOf, sideOf, newBitmap, createBitmap}
+use Rattle.plan.specs.Create.{creation, createOf, sideOf, newBitmap, createBitmap}
 
 -- a new object: refused with 5, refused with 7, made
 module _ (b : GdiState) (o : GdiObject) where
@@ -25,9 +25,9 @@ module _ (b : GdiState) (o : GdiObject) where
     unfolding createOf
     short-plan lt = rw (lt-leb _ _ few, lt-ltb _ _ lt)
 
-    pub made-plan : used b + bytesOf o ≤ b .«store_len» → createOf b o ≡ made b o
+    pub creation-plan : used b + bytesOf o ≤ b .«store_len» → createOf b o ≡ creation b o
     unfolding createOf
-    made-plan le = rw (lt-leb _ _ few, le-ltb _ _ le)
+    creation-plan le = rw (lt-leb _ _ few, le-ltb _ _ le)
 
 -- a new bitmap: its sides, refused with 6, or as any object
 pub side-fits : (n : ℕ) → n ≤ 4096 → side (sideOf n) ≡ true

@@ -6,24 +6,24 @@ use Prim.Native.Nat.{ℕ}
 use lib.ListN.{drop}
 use Rattle.gdi.specs.declared.GdiState.{GdiState}
 use Rattle.numbers.specs.Layout.{slotPlace}
-use Rattle.numbers.specs.View.{view, isRecord, Stored}
-use Rattle.numbers.proofs.Kept.{stored-same}
+use Rattle.numbers.specs.View.{view, isRecord, Updated}
+use Rattle.numbers.proofs.Kept.{updated-same}
 use Rattle.paint.specs.Memories.{Memories}
 use Rattle.paint.specs.Paint.{after}
 use Rattle.plan.specs.Answer.{Parts, refused}
-use Rattle.plan.specs.Plan.{Outcome, Plan, told, refuse}
+use Rattle.plan.specs.Plan.{Outcome, Plan, recordOnly, refuse}
 use Rattle.plan.specs.Stroke.{Stroke, dirtiedBy, paintsOf, drawnBy}
 use Rattle.plan.specs.Followed.{Followed}
 use Rattle.plan.proofs.Strokes.{Stroked, dirtied-by-count, stroked-then}
 
 -- Strokes were made on a record lent as numbers.
 pub record StrokedOn (l : List ℕ) (ss : List Stroke) (ms : Memories) (l′ : List ℕ) (ms′ : Memories) : Type 0 where
-  pub numbers : Stored l (dirtiedBy (view l) ss) l′
+  pub numbers : Updated l (dirtiedBy (view l) ss) l′
   pub memories : ms′ ≡ after (view l) (paintsOf ss) ms
 
 -- stored twice, with as many objects
-pub stored-twice : {l l₁ l′ : List ℕ} {b₁ b : GdiState} → b .count ≡ b₁ .count → Stored l b₁ l₁ → Stored l₁ b l′ → Stored l b l′
-stored-twice {l} {l₁} e s t = record { is-record = t .is-record; same = t .same; rest = t .rest ∙ subst (λ (n : ℕ). drop (slotPlace n) l₁ ≡ drop (slotPlace n) l) (sym e) (s .rest) }
+pub updated-twice : {l l₁ l′ : List ℕ} {b₁ b : GdiState} → b .count ≡ b₁ .count → Updated l b₁ l₁ → Updated l₁ b l′ → Updated l b l′
+updated-twice {l} {l₁} e s t = record { is-record = t .is-record; same = t .same; rest = t .rest ∙ subst (λ (n : ℕ). drop (slotPlace n) l₁ ≡ drop (slotPlace n) l) (sym e) (s .rest) }
 
 -- another name of the plan
 pub followed-as : {p q : Plan} {l : List ℕ} {ms : Memories} {a : Parts} {l′ : List ℕ} {ms′ : Memories} → p ≡ q → Followed q l ms a l′ ms′ → Followed p l ms a l′ ms′
@@ -33,7 +33,7 @@ module _ {p : Plan} {l : List ℕ} {ms : Memories} where
   -- a refusal: of a record, and of any numbers
   pub refusal : {n : ℕ} → isRecord l ≡ true → p ≡ refuse n (view l) → Followed p l ms (refused n) l ms
   unfolding after
-  refusal r e = record { answer = rw e; numbers = λ z. rw e (stored-same r); memories = rw e; kept = λ z. (refl, refl) }
+  refusal r e = record { answer = rw e; numbers = λ z. rw e (updated-same r); memories = rw e; kept = λ z. (refl, refl) }
 
   pub refusal-of-any : {n : ℕ} → (n ≡ 0 → ⊥) → p ≡ refuse n (view l) → Followed p l ms (refused n) l ms
   unfolding after
@@ -41,21 +41,21 @@ module _ {p : Plan} {l : List ℕ} {ms : Memories} where
 
   -- an accepted call: by its steps; one that paints nothing; one that changes nothing
   pub acceptance : {b : GdiState} {a : Parts} {l′ : List ℕ} {ms′ : Memories} → a .number ≡ 0 → p .outcome ≡ record { state = b; answer = a }
-      → Stored l b l′ → ms′ ≡ after (view l) (p .paint) ms → Followed p l ms a l′ ms′
+      → Updated l b l′ → ms′ ≡ after (view l) (p .paint) ms → Followed p l ms a l′ ms′
   acceptance {l′ = l′} z e s m =
       record {
         answer = sym (ap (λ (o : Outcome). o .answer) e);
-        numbers = λ y. subst (λ (o : Outcome). Stored l (o .state) l′) (sym e) s;
+        numbers = λ y. subst (λ (o : Outcome). Updated l (o .state) l′) (sym e) s;
         memories = m;
         kept = λ h. absurd (h z);
       }
 
-  pub acceptance-told : {b : GdiState} {a : Parts} {l′ : List ℕ} → a .number ≡ 0 → p ≡ told b a → Stored l b l′ → Followed p l ms a l′ ms
+  pub acceptance-record-only : {b : GdiState} {a : Parts} {l′ : List ℕ} → a .number ≡ 0 → p ≡ recordOnly b a → Updated l b l′ → Followed p l ms a l′ ms
   unfolding after
-  acceptance-told z e s = acceptance z (ap (λ (q : Plan). q .outcome) e) s (rw e)
+  acceptance-record-only z e s = acceptance z (ap (λ (q : Plan). q .outcome) e) s (rw e)
 
-  pub acceptance-same : {a : Parts} → isRecord l ≡ true → a .number ≡ 0 → p ≡ told (view l) a → Followed p l ms a l ms
-  acceptance-same r z e = acceptance-told z e (stored-same r)
+  pub acceptance-same : {a : Parts} → isRecord l ≡ true → a .number ≡ 0 → p ≡ recordOnly (view l) a → Followed p l ms a l ms
+  acceptance-same r z e = acceptance-record-only z e (updated-same r)
 
 -- strokes on the numbers are strokes on the record that they are; strokes made in two steps are the strokes of one list
 pub stroked-on : {l l′ : List ℕ} {ss : List Stroke} {ms ms′ : Memories} → StrokedOn l ss ms l′ ms′ → Stroked (view l) ss ms (view l′) ms′
@@ -65,8 +65,8 @@ pub stroked-on-then : {l l₁ l′ : List ℕ} {ss ts : List Stroke} {ms ms₁ m
 stroked-on-then {l} {l₁} {l′} {ss} {ts} x y =
     let z = stroked-then (stroked-on x) (stroked-on y) in
     record {
-      numbers = subst (λ (b : GdiState). Stored l b l′) (sym (y .numbers .same) ∙ z .state)
-          (stored-twice (dirtied-by-count ts (view l₁) ∙ ap (λ (b : GdiState). b .count) (x .numbers .same)) (x .numbers) (y .numbers));
+      numbers = subst (λ (b : GdiState). Updated l b l′) (sym (y .numbers .same) ∙ z .state)
+          (updated-twice (dirtied-by-count ts (view l₁) ∙ ap (λ (b : GdiState). b .count) (x .numbers .same)) (x .numbers) (y .numbers));
       memories = z .memories;
     }
 

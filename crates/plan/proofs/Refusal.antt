@@ -20,9 +20,9 @@ use Rattle.ready.specs.Ready.{commonRefusal}
 use Rattle.plan.specs.declared.Call.{Call}
 use Rattle.plan.specs.declared.Call.the-variants.{CreateMemoryDc, CreateCompatibleBitmap, CreateSolidBrush, CreatePen, CreateFont, Delete, Remove, SelectInto, SetTextColor, SetTextAlign, SetBkColor, SetBkMode, PatternFill, Rectangle, Text, PanelFill, Resize, Blit}
 use Rattle.plan.specs.Answer.{Parts, answered}
-use Rattle.plan.specs.Plan.{Plan, told, refuse}
-use Rattle.plan.specs.Create.{made, newBitmap, createOf, createBitmap}
-use Rattle.plan.specs.Delete.{goneAt, goes}
+use Rattle.plan.specs.Plan.{Plan, recordOnly, refuse}
+use Rattle.plan.specs.Create.{creation, newBitmap, createOf, createBitmap}
+use Rattle.plan.specs.Delete.{deletionAt, deletionOf}
 use Rattle.plan.specs.Select.{isOther, selectAt, selectInto}
 use Rattle.plan.specs.Settings.{settingAt, setting}
 use Rattle.plan.specs.Calls.{act, plan}
@@ -43,7 +43,7 @@ create : (b : GdiState) (o : GdiObject) → Keeps b (createOf b o)
 unfolding createOf
 create b o = by (leb 256 (b .count)) (ltb (b .«store_len») (used b + bytesOf o))
   where
-    by : (s t : Bool) → Keeps b (cond s (refuse 5 b) (cond t (refuse 7 b) (made b o)))
+    by : (s t : Bool) → Keeps b (cond s (refuse 5 b) (cond t (refuse 7 b) (creation b o)))
     by true t = refusal b 5
     by false true = refusal b 7
     by false false = accepted b _ refl
@@ -58,11 +58,11 @@ bitmap b w h = by (ltb 4096 w || ltb 4096 h)
 
 module _ (stock : Parts) (gone : ℕ → Parts) (none : Parts) (b : GdiState) (h : ℕ)
     (s : stock .number ≡ 0) (g : (i : ℕ) → gone i .number ≡ 0) (n : none .number ≡ 0) where
-  leave : Keeps b (goes stock gone none b h)
-  unfolding goes
+  leave : Keeps b (deletionOf stock gone none b h)
+  unfolding deletionOf
   leave = by (isStock h) (findOf b h)
     where
-      by : (t : Bool) (q : Found) → Keeps b (cond t (told b stock) (goneAt gone none b h q))
+      by : (t : Bool) (q : Found) → Keeps b (cond t (recordOnly b stock) (deletionAt gone none b h q))
       by true q = accepted b _ s
       by false (At i) = accepted b _ (g i)
       by false Nothing = accepted b _ n
@@ -71,7 +71,7 @@ select : (b : GdiState) (dc h : ℕ) → Keeps b (selectInto b dc h)
 unfolding selectInto
 select b dc h = by (isOther (kindOf b h)) (kindOf b h) (dcOf b dc)
   where
-    by : (t : Bool) (k : Kind) (q : DcFound) → Keeps b (cond t (told b (answered 0)) (selectAt b dc h k q))
+    by : (t : Bool) (k : Kind) (q : DcFound) → Keeps b (cond t (recordOnly b (answered 0)) (selectAt b dc h k q))
     by true k q = accepted b _ refl
     by false k (Is p d) = accepted b _ refl
     by false k Absent = accepted b _ refl

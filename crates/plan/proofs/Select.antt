@@ -1,4 +1,4 @@
--- Select and the settings change DC records alone: what stays of the bench. Assumes nothing.
+-- Select and the settings change DC records alone: what stays of the device. Assumes nothing.
 use mathlib.Core.Bool.{Bool, true, false, cond}
 use mathlib.Core.List.{[]}
 use mathlib.Core.Path.{_≡_, refl}
@@ -12,10 +12,10 @@ use Rattle.gdi.specs.declared.Spot.the-variants.{Screen, Created}
 use Rattle.gdi.specs.declared.DcFound.{DcFound}
 use Rattle.gdi.specs.declared.DcFound.the-variants.{Is, Absent}
 use Rattle.gdi.specs.Lookup.{dcOf, kindOf}
-use Rattle.gdi.specs.Updates.{storeOf}
-use Rattle.place.proofs.Same.{Still, still-same, stored-places, stored-sound}
+use Rattle.gdi.specs.Updates.{withDc}
+use Rattle.place.proofs.Same.{Still, still-same, updated-places, updated-sound}
 use Rattle.plan.specs.Answer.{Parts, answered}
-use Rattle.plan.specs.Plan.{Plan, told}
+use Rattle.plan.specs.Plan.{Plan, recordOnly}
 use Rattle.plan.specs.Select.{selectIn, isOther, selectAt, selectInto}
 use Rattle.plan.specs.Settings.{settingAt, setting}
 
@@ -24,26 +24,26 @@ pub record Unpainted (b : GdiState) (p : Plan) : Type 0 where
   pub paint : p .paint ≡ []
   pub still : Still b (p .outcome .state)
 
-told-unpainted : (b : GdiState) (a : Parts) → Unpainted b (told b a)
+told-unpainted : (b : GdiState) (a : Parts) → Unpainted b (recordOnly b a)
 told-unpainted b a = record { paint = refl; still = still-same b }
 
 -- another DC record, with the same kind of surface
 module _ (b : GdiState) (dc : ℕ) {p : Spot} {d₀ : Dc} (d : Dc) (a : Parts) (found : dcOf b dc ≡ Is p d₀) (same : d .surface ≡ d₀ .surface) where
-  panel-kept : (p : Spot) → storeOf b dc p d .«panel_len» ≡ b .«panel_len»
+  panel-kept : (p : Spot) → withDc b dc p d .«panel_len» ≡ b .«panel_len»
   panel-kept Screen = refl
   panel-kept (Created i) = refl
 
-  store-kept : (p : Spot) → storeOf b dc p d .«store_len» ≡ b .«store_len»
+  store-kept : (p : Spot) → withDc b dc p d .«store_len» ≡ b .«store_len»
   store-kept Screen = refl
   store-kept (Created i) = refl
 
-  stored-unpainted : Unpainted b (told (storeOf b dc p d) a)
-  stored-unpainted =
+  updated-unpainted : Unpainted b (recordOnly (withDc b dc p d) a)
+  updated-unpainted =
       record {
         paint = refl;
         still = record {
-          places = stored-places b dc d found;
-          sound = λ s. stored-sound b dc d s found same;
+          places = updated-places b dc d found;
+          sound = λ s. updated-sound b dc d s found same;
           panel-len = panel-kept p;
           store-len = store-kept p;
         };
@@ -60,9 +60,9 @@ pub select-unpainted : (b : GdiState) (dc h : ℕ) → Unpainted b (selectInto b
 unfolding selectInto
 select-unpainted b dc h = by (isOther (kindOf b h)) (dcOf b dc) refl
   where
-    by : (t : Bool) (q : DcFound) → dcOf b dc ≡ q → Unpainted b (cond t (told b (answered 0)) (selectAt b dc h (kindOf b h) q))
+    by : (t : Bool) (q : DcFound) → dcOf b dc ≡ q → Unpainted b (cond t (recordOnly b (answered 0)) (selectAt b dc h (kindOf b h) q))
     by true q e = told-unpainted b _
-    by false (Is p d) e = stored-unpainted b dc _ _ e (select-surface d h (kindOf b h))
+    by false (Is p d) e = updated-unpainted b dc _ _ e (select-surface d h (kindOf b h))
     by false Absent e = told-unpainted b _
 
 pub setting-unpainted : (old : Dc → Parts) (new : Dc → Dc) → ((d : Dc) → new d .surface ≡ d .surface) → (b : GdiState) (dc : ℕ) → Unpainted b (setting old new b dc)
@@ -70,5 +70,5 @@ unfolding setting
 setting-unpainted old new same b dc = by (dcOf b dc) refl
   where
     by : (q : DcFound) → dcOf b dc ≡ q → Unpainted b (settingAt old new b dc q)
-    by (Is p d) e = stored-unpainted b dc _ _ e (same d)
+    by (Is p d) e = updated-unpainted b dc _ _ e (same d)
     by Absent e = told-unpainted b _

@@ -8,12 +8,12 @@ use Rattle.place.specs.declared.Place.{Place}
 use Rattle.place.specs.declared.Site.{Site}
 use Rattle.place.specs.declared.SurfaceId.{SurfaceId}
 use Rattle.place.specs.Place.{slotFor}
-use Rattle.place.specs.Inner.{Placed}
+use Rattle.place.specs.Inner.{SiteFound}
 use Rattle.place.proofs.Same.{SamePlaces, Still, still-same, still-then}
 use Rattle.dirty.specs.Dirty.{dirtiedIf}
 use Rattle.dirty.proofs.Still.{dirtied-if-still, dirtied-if-slot, dirtied-if-count}
 use Rattle.paint.specs.Memories.{Memories, widthOf, over, colourAt}
-use Rattle.paint.specs.Paint.{Source, black, taken, Draw, draw, operand, drawn, paintedBy, after}
+use Rattle.paint.specs.Paint.{Source, black, sampled, Draw, draw, operand, drawnBytes, paintedBy, after}
 use Rattle.plan.specs.Stroke.{Stroke, dirtiedBy, paintsOf}
 
 -- Strokes were made: the record after has their dirty marks, and the memories after have their drawings.
@@ -52,11 +52,11 @@ painted-append b (s ∷ ss) ts ms = painted-append b ss ts (paintedBy b (draw (s
 module _ (b b′ : GdiState) (e : SamePlaces b b′) where
   same-operand : (ms : Memories) (o : Source) → operand b′ ms o ≡ operand b ms o
   same-operand ms black = refl
-  same-operand ms (taken s fx fy) = ap {B = ℕ → ℕ → ℕ} (λ at x y. colourAt ms at (fx x) (fy y)) (e s)
+  same-operand ms (sampled s fx fy) = ap {B = ℕ → ℕ → ℕ} (λ at x y. colourAt ms at (fx x) (fy y)) (e s)
 
   same-drawing : (d : Draw) (ms : Memories) → paintedBy b′ (draw d) ms ≡ paintedBy b (draw d) ms
   unfolding paintedBy
-  same-drawing d ms = ap₂ (λ (at : Place) (s : ℕ → ℕ → ℕ). over at (drawn d s (widthOf at)) ms) (e (d .target)) (same-operand ms (d .source))
+  same-drawing d ms = ap₂ (λ (at : Place) (s : ℕ → ℕ → ℕ). over at (drawnBytes d s (widthOf at)) ms) (e (d .target)) (same-operand ms (d .source))
 
   same-drawings : (ss : List Stroke) (ms : Memories) → after b′ (paintsOf ss) ms ≡ after b (paintsOf ss) ms
   unfolding after paintsOf
@@ -72,7 +72,7 @@ module _ {b : GdiState} {ss : List Stroke} {ms : Memories} {r : GdiState} {ms₁
   stroked-ready p q i = let t = stroked-still in record { sound = t .sound (i .sound); panel = p ∙ i .panel ∙ sym (t .panel-len); store = q ∙ i .store ∙ sym (t .store-len) }
 
   -- a site that was found before them is one still
-  pub stroked-placed : {s : SurfaceId} {i : Site} → Placed b s i → Placed r s i
+  pub stroked-placed : {s : SurfaceId} {i : Site} → SiteFound b s i → SiteFound r s i
   stroked-placed {s} w =
       let t = stroked-still in
       record {

@@ -20,7 +20,7 @@ use Rattle.gdi.specs.declared.Spot.the-variants.{Screen, Created}
 use Rattle.gdi.specs.declared.DcFound.{DcFound}
 use Rattle.gdi.specs.declared.DcFound.the-variants.{Is, Absent}
 use Rattle.gdi.specs.Record.{noSlot, vacantSlot, bytesOf}
-use Rattle.gdi.specs.Updates.{withSides, withStockDirty, storeOf}
+use Rattle.gdi.specs.Updates.{withSides, withStockDirty, withDc}
 use Rattle.gdi.specs.Stock.{isStock, stockBitmap}
 use Rattle.gdi.specs.Lookup.{slotAt, findOf, dcOf, kindOf}
 use Rattle.gdi.proofs.Scan.{found-count, dc-found}
@@ -31,16 +31,16 @@ use Rattle.ready.specs.Ready.{commonRefusal}
 use Rattle.ready.proofs.Ready.{ready}
 use Rattle.place.specs.declared.SurfaceId.{SurfaceId}
 use Rattle.place.specs.declared.SurfaceId.the-variants.{Panel, Bitmap}
-use Rattle.dirty.specs.Dirty.{framed, createdDirtied, dirtied, dirtiedIf}
+use Rattle.dirty.specs.Dirty.{nextFrame, createdDirtied, dirtied, dirtiedIf}
 use Rattle.handles.specs.Handles.{inserted, added}
 use Rattle.removal.specs.Removal.{withoutAt}
 use Rattle.plan.specs.declared.Call.{Call}
 use Rattle.plan.specs.declared.Call.the-variants.{CreateMemoryDc, CreateCompatibleBitmap, CreateSolidBrush, CreatePen, CreateFont, Delete, Remove, SelectInto, SetTextColor, SetTextAlign, SetBkColor, SetBkMode, PatternFill, Rectangle, Text, PanelFill, Resize, Blit}
 use Rattle.plan.specs.Answer.{Parts, answered}
-use Rattle.plan.specs.Plan.{Plan, told, refuse}
+use Rattle.plan.specs.Plan.{Plan, recordOnly, refuse}
 use Rattle.plan.specs.Stroke.{Stroke, dirtiedBy}
-use Rattle.plan.specs.Create.{made, newBitmap, createOf, createBitmap}
-use Rattle.plan.specs.Delete.{goneAt, goes}
+use Rattle.plan.specs.Create.{creation, newBitmap, createOf, createBitmap}
+use Rattle.plan.specs.Delete.{deletionAt, deletionOf}
 use Rattle.plan.specs.Select.{isOther, selectAt, selectInto}
 use Rattle.plan.specs.Settings.{settingAt, setting}
 use Rattle.plan.specs.Calls.{act, plan}
@@ -71,7 +71,7 @@ module _ (b : GdiState) (sound : Sound b) (v : Vacant b) where
   unfolding createOf
   create-vacant o = by (leb 256 (b .count)) refl (ltb (b .«store_len») (used b + bytesOf o))
     where
-      by : (s : Bool) → leb 256 (b .count) ≡ s → (t : Bool) → Vacant (cond s (refuse 5 b) (cond t (refuse 7 b) (made b o)) .outcome .state)
+      by : (s : Bool) → leb 256 (b .count) ≡ s → (t : Bool) → Vacant (cond s (refuse 5 b) (cond t (refuse 7 b) (creation b o)) .outcome .state)
       by true e t = v
       by false e true = v
       by false e false = added-vacant o (leb-false 256 (b .count) e)
@@ -96,19 +96,19 @@ module _ (b : GdiState) (sound : Sound b) (v : Vacant b) where
       by j le few (yes c) = closed-freed vacantSlot (b .objects) i 1 (b .count) (omega arith) fits noSlot j le c
       by j le few (no c) = closed-past vacantSlot (b .objects) i 1 (b .count) (omega arith) fits noSlot j (omega arith) ∙ v .vacant j (omega arith) few
 
-  goes-vacant : (stock : Parts) (gone : ℕ → Parts) (none : Parts) (h : ℕ) → Vacant (goes stock gone none b h .outcome .state)
-  unfolding goes
+  goes-vacant : (stock : Parts) (gone : ℕ → Parts) (none : Parts) (h : ℕ) → Vacant (deletionOf stock gone none b h .outcome .state)
+  unfolding deletionOf
   goes-vacant stock gone none h = by (isStock h) (findOf b h) refl
     where
-      by : (t : Bool) (q : Found) → findOf b h ≡ q → Vacant (cond t (told b stock) (goneAt gone none b h q) .outcome .state)
+      by : (t : Bool) (q : Found) → findOf b h ≡ q → Vacant (cond t (recordOnly b stock) (deletionAt gone none b h q) .outcome .state)
       by true q e = v
       by false (At i) e = gone-vacant i (found-count b h e)
       by false Nothing e = v
 
   -- a DC changed
-  stored-vacant : (dc : ℕ) (p : Spot) (d₀ d : Dc) → dcOf b dc ≡ Is p d₀ → Vacant (storeOf b dc p d)
-  stored-vacant dc Screen d₀ d e = record { table = v .table; vacant = v .vacant }
-  stored-vacant dc (Created i) d₀ d e =
+  updated-vacant : (dc : ℕ) (p : Spot) (d₀ d : Dc) → dcOf b dc ≡ Is p d₀ → Vacant (withDc b dc p d)
+  updated-vacant dc Screen d₀ d e = record { table = v .table; vacant = v .vacant }
+  updated-vacant dc (Created i) d₀ d e =
       let lt : i < b .count = found-count b dc (dc-found b dc e .0) in
       record { table = length-set (b .objects) i _ ∙ v .table; vacant = λ j le few. getD-set-other (b .objects) i j _ noSlot (λ q. absurd (omega (arith, q, lt))) ∙ v .vacant j le few }
 
@@ -116,9 +116,9 @@ module _ (b : GdiState) (sound : Sound b) (v : Vacant b) where
   unfolding selectInto
   select-vacant dc h = by (isOther (kindOf b h)) (dcOf b dc) refl
     where
-      by : (t : Bool) (q : DcFound) → dcOf b dc ≡ q → Vacant (cond t (told b (answered 0)) (selectAt b dc h (kindOf b h) q) .outcome .state)
+      by : (t : Bool) (q : DcFound) → dcOf b dc ≡ q → Vacant (cond t (recordOnly b (answered 0)) (selectAt b dc h (kindOf b h) q) .outcome .state)
       by true q e = v
-      by false (Is p d) e = stored-vacant dc p d _ e
+      by false (Is p d) e = updated-vacant dc p d _ e
       by false Absent e = v
 
   setting-vacant : (old : Dc → Parts) (new : Dc → Dc) (dc : ℕ) → Vacant (setting old new b dc .outcome .state)
@@ -126,11 +126,11 @@ module _ (b : GdiState) (sound : Sound b) (v : Vacant b) where
   setting-vacant old new dc = by (dcOf b dc) refl
     where
       by : (q : DcFound) → dcOf b dc ≡ q → Vacant (settingAt old new b dc q .outcome .state)
-      by (Is p d) e = stored-vacant dc p d _ e
+      by (Is p d) e = updated-vacant dc p d _ e
       by Absent e = v
 
 -- a mark made
-framed-vacant : (b : GdiState) → Vacant b → Vacant (framed b)
+framed-vacant : (b : GdiState) → Vacant b → Vacant (nextFrame b)
 framed-vacant b v = record { table = v .table; vacant = v .vacant }
 
 dirtied-vacant : (b : GdiState) (s : SurfaceId) → Vacant b → Vacant (dirtied b s)

@@ -3,7 +3,7 @@ use mathlib.Core.Bool.{Bool, false, cond}
 use mathlib.Core.List.{List, [], _∷_}
 use Prim.Native.Nat.{ℕ, _*_}
 use lib.Dec.{leb, ltb}
-use Rattle.laws.specs.Integer.{positive}
+use Rattle.arithmetic.specs.Integer.{positive}
 use Rattle.rop3.specs.Rop3.{tableOf, usesSrc}
 use Rattle.clip_blit.specs.Blit.{sourceAt, drawnAt}
 use Rattle.color.specs.Color.{packed}
@@ -25,7 +25,7 @@ use Rattle.plan.specs.declared.Area.{Area}
 use Rattle.plan.specs.declared.Point.{Point}
 use Rattle.plan.specs.Answer.{answered, done}
 use Rattle.paint.specs.Memories.{widthOf, heightOf}
-use Rattle.paint.specs.Paint.{black, taken, Draw}
+use Rattle.paint.specs.Paint.{black, sampled, Draw}
 use Rattle.plan.specs.Plan.{Plan, refuse}
 use Rattle.plan.specs.Stroke.{Stroke, drawnBy}
 
@@ -126,7 +126,7 @@ rowFor a p y = positive (sourceAt (a .y) (p .y) y)
 
 -- the pixels of the clipped box, each from the pixel that is taken for it; the source lies at from
 abbrev pub blitted : (target source : SurfaceId) → (from : Place) → Area → Point → (table pattern : ℕ) → Draw
-blitted s q from a p t c = record { target = s; region = blitBox from a p; table = t; pattern = c; source = taken q (columnFor a p) (rowFor a p) }
+blitted s q from a p t c = record { target = s; region = blitBox from a p; table = t; pattern = c; source = sampled q (columnFor a p) (rowFor a p) }
 
 -- its stroke
 abbrev pub blitStroke : GdiState → (target source : SurfaceId) → Area → Point → (table pattern : ℕ) → Stroke

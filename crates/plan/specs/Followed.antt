@@ -3,7 +3,7 @@ use mathlib.Core.List.{List}
 use mathlib.Core.Path.{_≡_}
 use Prim.Native.Nat.{ℕ}
 use lib.ListN.{length}
-use Rattle.numbers.specs.View.{view, Stored}
+use Rattle.numbers.specs.View.{view, Updated}
 use Rattle.paint.specs.Memories.{Memories}
 use Rattle.paint.specs.Paint.{after}
 use Rattle.plan.specs.declared.Call.{Call}
@@ -15,7 +15,7 @@ use Rattle.plan.specs.Calls.{planOn}
 -- have its paints; refused, every number and every byte is as it was.
 pub record Followed (p : Plan) (l : List ℕ) (ms : Memories) (a : Parts) (l′ : List ℕ) (ms′ : Memories) : Type 0 where
   pub answer : a ≡ p .outcome .answer
-  pub numbers : a .number ≡ 0 → Stored l (p .outcome .state) l′
+  pub numbers : a .number ≡ 0 → Updated l (p .outcome .state) l′
   pub memories : ms′ ≡ after (view l) (p .paint) ms
   pub kept : (a .number ≡ 0 → ⊥) → (l′ ≡ l) × (ms′ ≡ ms)
 

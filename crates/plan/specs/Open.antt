@@ -1,4 +1,4 @@
--- Open: a fresh bench, panel and stock pixel black.
+-- Open: a fresh device, panel and stock pixel black.
 use mathlib.Core.Bool.{cond, _&&_}
 use mathlib.Core.Path.{_≡_}
 use Prim.Native.Nat.{ℕ}
@@ -9,7 +9,7 @@ use Rattle.surface.specs.Refusal.{side, unlessRefused}
 use Rattle.gdi.specs.declared.GdiState.{GdiState}
 use Rattle.gdi.specs.Record.{size, fresh}
 use Rattle.numbers.specs.Layout.{recordSize}
-use Rattle.numbers.specs.View.{Stored}
+use Rattle.numbers.specs.View.{Updated}
 use Rattle.sound.specs.Sound.{limit}
 use Rattle.memory.specs.Gap.{blanked}
 use Rattle.paint.specs.Memories.{Memories}
@@ -29,7 +29,7 @@ openedAs number w h n k = cond (eqb number 0) (fresh n k w h) (fresh 0 0 0 0)
 -- Opened, or refused: the number; the record; accepted, panel and stock pixel are zeroed. Where no record fits, no number changes.
 pub record Opened (w h : ℕ) (l : List ℕ) (ms : Memories) (number : ℕ) (l′ : List ℕ) (ms′ : Memories) : Type 0 where
   pub answer : number ≡ openNumber (length l) w h (length (ms .panel)) (length (ms .store))
-  pub numbers : length l ≡ recordSize → Stored l (openedAs number w h (length (ms .panel)) (length (ms .store))) l′
+  pub numbers : length l ≡ recordSize → Updated l (openedAs number w h (length (ms .panel)) (length (ms .store))) l′
   pub kept : (length l ≡ recordSize → ⊥) → l′ ≡ l
   pub panel : ms′ .panel ≡ unlessRefused number (blanked (ms .panel) 0 (size w h)) (ms .panel)
   pub store : ms′ .store ≡ unlessRefused number (blanked (ms .store) 0 2) (ms .store)

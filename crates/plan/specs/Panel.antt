@@ -11,7 +11,7 @@ use Rattle.place.specs.declared.SurfaceId.the-variants.{Panel}
 use Rattle.dirty.specs.Dirty.{dirtied}
 use Rattle.plan.specs.Answer.{done}
 use Rattle.paint.specs.Paint.{Paint, blank, only}
-use Rattle.plan.specs.Plan.{Plan, told, refuse}
+use Rattle.plan.specs.Plan.{Plan, recordOnly, refuse}
 use Rattle.plan.specs.Stroke.{Stroke, drawnBy}
 use Rattle.plan.specs.Drawing.{solid}
 
@@ -37,7 +37,7 @@ noEffect b w h = (eqb w 0 || eqb h 0) || (eqb w (b .width) && eqb h (b .height))
 -- does nothing; else 6 a side above 4,096, then 7 panel memory too short
 unfoldable pub resize : GdiState → (width height : ℕ) → Plan
 resize b w h =
-    cond (noEffect b w h) (told b done) (
+    cond (noEffect b w h) (recordOnly b done) (
     cond (ltb 4096 w || ltb 4096 h) (refuse 6 b) (
     cond (ltb (b .«panel_len») (size w h)) (refuse 7 b)
     (resized b w h)))

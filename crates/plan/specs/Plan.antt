@@ -16,9 +16,9 @@ pub record Plan : Type 0 where
   pub paint : List Paint
 
 -- no byte changes: the record and the answer
-abbrev pub told : GdiState → Parts → Plan
-told b a = record { outcome = record { state = b; answer = a }; paint = [] }
+abbrev pub recordOnly : GdiState → Parts → Plan
+recordOnly b a = record { outcome = record { state = b; answer = a }; paint = [] }
 
 -- a refusal changes no byte and no field
 abbrev pub refuse : ℕ → GdiState → Plan
-refuse n b = told b (refused n)
+refuse n b = recordOnly b (refused n)

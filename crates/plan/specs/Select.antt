@@ -10,10 +10,10 @@ use Rattle.gdi.specs.declared.SelectedBitmap.the-variants.{Unset, Chosen}
 use Rattle.gdi.specs.declared.DcFound.{DcFound}
 use Rattle.gdi.specs.declared.DcFound.the-variants.{Is, Absent}
 use Rattle.gdi.specs.Stock.{stockBitmap}
-use Rattle.gdi.specs.Updates.{storeOf, withBitmap, withBrush, withPen, withFont}
+use Rattle.gdi.specs.Updates.{withDc, withBitmap, withBrush, withPen, withFont}
 use Rattle.gdi.specs.Lookup.{dcOf, kindOf}
 use Rattle.plan.specs.Answer.{answered}
-use Rattle.plan.specs.Plan.{Plan, told}
+use Rattle.plan.specs.Plan.{Plan, recordOnly}
 
 -- the DC with the object h of this kind selected; brush and pen colours are copied into it
 abbrev pub selectIn : Dc → ℕ → Kind → Dc
@@ -45,9 +45,9 @@ isOther Font = false
 isOther Other = true
 
 abbrev pub selectAt : GdiState → (dc h : ℕ) → Kind → DcFound → Plan
-selectAt b dc h k (Is p d) = told (storeOf b dc p (selectIn d h k)) (answered (selectedOf d k))
-selectAt b dc h k Absent = told b (answered 0)
+selectAt b dc h k (Is p d) = recordOnly (withDc b dc p (selectIn d h k)) (answered (selectedOf d k))
+selectAt b dc h k Absent = recordOnly b (answered 0)
 
 -- 0 if the object is absent or a DC, or the DC is absent; else the previous handle of that kind
 unfoldable pub selectInto : GdiState → (dc h : ℕ) → Plan
-selectInto b dc h = cond (isOther (kindOf b h)) (told b (answered 0)) (selectAt b dc h (kindOf b h) (dcOf b dc))
+selectInto b dc h = cond (isOther (kindOf b h)) (recordOnly b (answered 0)) (selectAt b dc h (kindOf b h) (dcOf b dc))

@@ -7,12 +7,12 @@ use Rattle.gdi.specs.declared.Dc.{Dc}
 use Rattle.gdi.specs.declared.DcFound.{DcFound}
 use Rattle.gdi.specs.declared.DcFound.the-variants.{Is, Absent}
 use Rattle.gdi.specs.Lookup.{dcOf}
-use Rattle.gdi.specs.Updates.{storeOf, withTextColor, withTextAlign, withBkColor, withBkMode}
+use Rattle.gdi.specs.Updates.{withDc, withTextColor, withTextAlign, withBkColor, withBkMode}
 use Rattle.plan.specs.Answer.{Parts, answered, flagged}
-use Rattle.plan.specs.Plan.{Plan, told, refuse}
+use Rattle.plan.specs.Plan.{Plan, recordOnly, refuse}
 
 abbrev pub settingAt : (old : Dc → Parts) (new : Dc → Dc) → GdiState → ℕ → DcFound → Plan
-settingAt old new b dc (Is p d) = told (storeOf b dc p (new d)) (old d)
+settingAt old new b dc (Is p d) = recordOnly (withDc b dc p (new d)) (old d)
 settingAt old new b dc Absent = refuse 1 b
 
 -- a setting changes one field of one DC record and answers the old value; 1 no such DC

@@ -1,4 +1,4 @@
-// The calls on a bench and their answers. What each call does is defined in specs/, as a plan that is made without a look at
+// The calls on a device and their answers. What each call does is defined in specs/, as a plan that is made without a look at
 // a pixel's colour.
 use color::Colorref;
 use color::Rgb565;
@@ -17,7 +17,7 @@ pub struct Point {
     pub y: i32,
 }
 
-// A call on a bench. Handles are numbers; a call takes the handles of its DC and object as they come. A text's units stand
+// A call on a device. Handles are numbers; a call takes the handles of its DC and object as they come. A text's units stand
 // beside it.
 pub enum Call {
     CreateMemoryDc,

@@ -6,7 +6,7 @@ use Prim.Native.Nat.{ℕ, _+_, _-_, _<_}
 use native.Mathlib.Omega.{arith}
 use lib.Dec.{eqb}
 use borrow.Author.Tests.{eq-eqb}
-use Rattle.laws.proofs.Test.{all-fails}
+use Rattle.arithmetic.proofs.Test.{all-fails}
 use Rattle.gdi.specs.Lookup.{handleAt}
 use Rattle.numbers.specs.Layout.{countPlace, slotPlace}
 use Rattle.numbers.specs.Block.{at}

@@ -6,7 +6,7 @@ use Prim.Native.Nat.{ℕ}
 use native.Mathlib.Omega.{arith}
 use lib.Dec.{eqb}
 use borrow.Author.Tests.{eqb-true, eq-eqb, ne-eqb}
-use Rattle.laws.proofs.Test.{both}
+use Rattle.arithmetic.proofs.Test.{both}
 use Rattle.gdi.specs.declared.GdiState.{GdiState}
 use Rattle.sound.specs.Sound.{isSound}
 use Rattle.numbers.specs.View.{view, isRecord}
@@ -54,8 +54,8 @@ ready b n k no₀ e z = by (isSound b) refl (eqb n (b .«panel_len»)) refl (eqb
     by true es false ep q eq i = absurd (omega arith)
     by false es p ep q eq i = absurd (omega arith)
 
-pub looks : {b : GdiState} {n k : ℕ} → Ready b n k → commonRefusal b n k ≡ 0
-looks {b} {n} {k} r = sym (none-other b n k (r .sound) (r .panel) (r .store))
+pub ready-accepts : {b : GdiState} {n k : ℕ} → Ready b n k → commonRefusal b n k ≡ 0
+ready-accepts {b} {n} {k} r = sym (none-other b n k (r .sound) (r .panel) (r .store))
 
 -- the same of a record lent as numbers
 module _ (l : List ℕ) (n k : ℕ) where

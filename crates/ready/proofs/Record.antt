@@ -4,7 +4,7 @@ use mathlib.Core.List.{List}
 use mathlib.Core.Path.{_≡_, refl, sym, _∙_}
 use Prim.Native.Nat.{ℕ, _*_, _≤_}
 use lib.Dec.{leb}
-use Rattle.laws.proofs.Test.{both}
+use Rattle.arithmetic.proofs.Test.{both}
 use Rattle.surface.specs.Refusal.{side}
 use Rattle.gdi.specs.Record.{size}
 use Rattle.numbers.specs.Layout.{panelLenPlace, storeLenPlace, widthPlace, heightPlace, countPlace}

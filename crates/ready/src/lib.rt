@@ -24,52 +24,52 @@ pub const UNSOUND_RECORD: u32 = 9;
 pub const OTHER_LENGTH: u32 = 8;
 
 // Whether the numbers are a sound record.
-fn is_sound(l: &[u32]) -> bool
-    ensures { λ r. ⌜ r ≡ (isRecord (now (l .entry)) && isSound (view (now (l .entry)))) ⌝ }
+fn is_sound(numbers: &[u32]) -> bool
+    ensures { λ r. ⌜ r ≡ (isRecord (now (numbers .entry)) && isSound (view (now (numbers .entry)))) ⌝ }
 {
-    if !well_formed::is_head(l) {
+    if !well_formed::is_head(numbers) {
         return false;
     }
-    let panel_len = l[PANEL_LEN] as usize;
+    let panel_len = numbers[PANEL_LEN] as usize;
     if panel_len > MAX_MEMORY {
         return false;
     }
-    let store_len = l[STORE_LEN] as usize;
+    let store_len = numbers[STORE_LEN] as usize;
     if store_len > MAX_MEMORY {
         return false;
     }
-    if !surface::is_side(l[WIDTH]) {
+    if !surface::is_side(numbers[WIDTH]) {
         return false;
     }
-    if !surface::is_side(l[HEIGHT]) {
+    if !surface::is_side(numbers[HEIGHT]) {
         return false;
     }
-    let w = l[WIDTH] as usize;
-    let h = l[HEIGHT] as usize;
+    let w = numbers[WIDTH] as usize;
+    let h = numbers[HEIGHT] as usize;
     if 2 * (w * h) > panel_len {
         return false;
     }
-    let s = sound::scan_slots(l);
+    let s = sound::scan_slots(numbers);
     let end = s.end;
     if end == 0 {
         return false;
     }
-    if !handles_differ(l, s.ascending) {
+    if !handles_differ(numbers, s.ascending) {
         return false;
     }
     end <= store_len
 }
 
 // Whether none of the first k handles is the k-th.
-fn is_absent(l: &[u32], k: usize) -> bool
-    requires { ⌜ isRecord (now l) ≡ true ⌝ }
-    requires { ⌜ k < at (now l) countPlace ⌝ }
-    ensures { λ r. ⌜ r ≡ absent (view (now (l .entry)) .objects) k (handleAt (view (now (l .entry)) .objects) k) ⌝ }
+fn is_absent(numbers: &[u32], k: usize) -> bool
+    requires { ⌜ isRecord (now numbers) ≡ true ⌝ }
+    requires { ⌜ k < at (now numbers) countPlace ⌝ }
+    ensures { λ r. ⌜ r ≡ absent (view (now (numbers .entry)) .objects) k (handleAt (view (now (numbers .entry)) .objects) k) ⌝ }
 {
-    let h = l[SLOTS + SLOT * k];
+    let h = numbers[SLOTS + SLOT * k];
     let mut j: usize = 0;
     while j < k {
-        if l[SLOTS + SLOT * j] == h {
+        if numbers[SLOTS + SLOT * j] == h {
             return false;
         }
         j += 1;
@@ -78,14 +78,14 @@ fn is_absent(l: &[u32], k: usize) -> bool
 }
 
 // Whether the handles of all pairs differ.
-fn all_pairs_differ(l: &[u32]) -> bool
-    requires { ⌜ isRecord (now l) ≡ true ⌝ }
-    ensures { λ r. ⌜ r ≡ distinct (view (now (l .entry)) .objects) (view (now (l .entry)) .count) ⌝ }
+fn all_pairs_differ(numbers: &[u32]) -> bool
+    requires { ⌜ isRecord (now numbers) ≡ true ⌝ }
+    ensures { λ r. ⌜ r ≡ distinct (view (now (numbers .entry)) .objects) (view (now (numbers .entry)) .count) ⌝ }
 {
-    let n = l[COUNT] as usize;
+    let n = numbers[COUNT] as usize;
     let mut k: usize = 0;
     while k < n {
-        if !is_absent(l, k) {
+        if !is_absent(numbers, k) {
             return false;
         }
         k += 1;
@@ -94,41 +94,41 @@ fn all_pairs_differ(l: &[u32]) -> bool
 }
 
 // Whether the handles differ: all pairs are looked at only where the handles do not ascend.
-fn handles_differ(l: &[u32], ascending: bool) -> bool
-    requires { ⌜ isRecord (now l) ≡ true ⌝ }
-    requires { ⌜ (ascending ≡ true → distinct (view (now l) .objects) (view (now l) .count) ≡ true) ⌝ }
-    ensures { λ r. ⌜ r ≡ distinct (view (now (l .entry)) .objects) (view (now (l .entry)) .count) ⌝ }
+fn handles_differ(numbers: &[u32], ascending: bool) -> bool
+    requires { ⌜ isRecord (now numbers) ≡ true ⌝ }
+    requires { ⌜ (ascending ≡ true → distinct (view (now numbers) .objects) (view (now numbers) .count) ≡ true) ⌝ }
+    ensures { λ r. ⌜ r ≡ distinct (view (now (numbers .entry)) .objects) (view (now (numbers .entry)) .count) ⌝ }
 {
     if ascending {
         return true;
     }
-    all_pairs_differ(l)
+    all_pairs_differ(numbers)
 }
 
 // The number with which every call is refused, 0 if calls are looked at.
-pub fn common_refusal(l: &[u32], panel_len: usize, store_len: usize) -> u32
-    ensures { λ r. ⌜ r ≡ commonRefusalOn (now (l .entry)) «panel_len» «store_len» ⌝ }
+pub fn common_refusal(numbers: &[u32], panel_len: usize, store_len: usize) -> u32
+    ensures { λ r. ⌜ r ≡ commonRefusalOn (now (numbers .entry)) «panel_len» «store_len» ⌝ }
 {
-    if !is_sound(l) {
+    if !is_sound(numbers) {
         return UNSOUND_RECORD;
     }
-    if panel_len != l[PANEL_LEN] as usize {
+    if panel_len != numbers[PANEL_LEN] as usize {
         return OTHER_LENGTH;
     }
-    if store_len != l[STORE_LEN] as usize {
+    if store_len != numbers[STORE_LEN] as usize {
         return OTHER_LENGTH;
     }
     0
 }
 
 // The same where only the panel memory is lent: the store's length is the record's own.
-pub fn panel_refusal(l: &[u32], panel_len: usize) -> u32
-    ensures { λ r. ⌜ r ≡ panelRefusalOn (now (l .entry)) «panel_len» ⌝ }
+pub fn panel_refusal(numbers: &[u32], panel_len: usize) -> u32
+    ensures { λ r. ⌜ r ≡ panelRefusalOn (now (numbers .entry)) «panel_len» ⌝ }
 {
-    if !is_sound(l) {
+    if !is_sound(numbers) {
         return UNSOUND_RECORD;
     }
-    if panel_len != l[PANEL_LEN] as usize {
+    if panel_len != numbers[PANEL_LEN] as usize {
         return OTHER_LENGTH;
     }
     0

@@ -11,7 +11,7 @@ Within at n Bad = Unit
 Within at n (Is s next) = (at ≤ next) × (next ≤ n)
 
 -- the same of a record's slots
-pub record Behind (at n : ℕ) (r : Slots) : Type 0 where
+pub record SlotsWithin (at n : ℕ) (r : Slots) : Type 0 where
   pub behind : at ≤ r .next
   pub inside : r .next ≤ n
 

@@ -1,4 +1,4 @@
-// Tries every call on bench records that are read as bytes (docs/record-cases.md), and prints what each record is refused
+// Tries every call on device records that are read as bytes (docs/record-cases.md), and prints what each record is refused
 // with. Every function is proved safe, and to end; what is printed is compared.
 mod read;
 mod same;
@@ -26,8 +26,8 @@ fn main() {
 // The whole of a stream.
 fn run(s: &[u8]) {
     if begins_well(s) {
-        let mut l = [0u32; numbers::RECORD];
-        try_all(s, &mut l);
+        let mut numbers = [0u32; numbers::RECORD];
+        try_all(s, &mut numbers);
     } else {
         lines::empty().text(b"bad script").print();
     }
@@ -45,18 +45,18 @@ fn begins_well(s: &[u8]) -> bool {
 }
 
 // A line for each record, whose numbers are put into `l`; a bad one ends them.
-fn try_all(s: &[u8], l: &mut [u32])
-    requires { ⌜ length (now l) ≡ recordSize ⌝ }
+fn try_all(s: &[u8], numbers: &mut [u32])
+    requires { ⌜ length (now numbers) ≡ recordSize ⌝ }
 {
     let mut at: usize = 4;
     let mut i: u64 = 0;
     while at < s.len() {
-        let case = read::record(s, at, l);
+        let case = read::record(s, at, numbers);
         if case.bad {
             lines::empty().text(b"bad record").print();
             return;
         }
-        print_told(i, tried::on_memories(l, case));
+        print_told(i, tried::on_memories(numbers, case));
         at = case.next;
         i += 1;
     }
@@ -64,10 +64,10 @@ fn try_all(s: &[u8], l: &mut [u32])
 
 // Prints the line of record i.
 fn print_told(i: u64, told: Told) {
-    let l = lines::empty().text(b"record ").decimal(i).space();
+    let numbers = lines::empty().text(b"record ").decimal(i).space();
     match told {
-        Told::Number(no) => l.decimal(no as u64).print(),
-        Told::Changed => l.text(b"changed").print(),
-        Told::Divided => l.text(b"divided").print(),
+        Told::Number(no) => numbers.decimal(no as u64).print(),
+        Told::Changed => numbers.text(b"changed").print(),
+        Told::Divided => numbers.text(b"divided").print(),
     }
 }

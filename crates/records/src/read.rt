@@ -1,9 +1,9 @@
-// Bench records as bytes, numbers most significant byte first, put into a record's numbers.
+// Device records as bytes, numbers most significant byte first, put into a record's numbers.
 ghost use mathlib.Core.Path.{_≡_};
 ghost use Prim.Native.Nat.{_≤_, _<_, _+_};
 ghost use lib.ListN.{length};
 ghost use Rattle.numbers.specs.Layout.{recordSize};
-ghost use Rattle.records.specs.Records.{Behind, Within, Taken};
+ghost use Rattle.records.specs.Records.{SlotsWithin, Within, Taken};
 use color::Colorref;
 use gdi::Bitmap;
 use gdi::Brush;
@@ -56,8 +56,8 @@ struct Settings {
 }
 
 // Puts the numbers of the record at `at`.
-pub fn record(s: &[u8], at: usize, l: &mut [u32]) -> Case
-    requires { ⌜ (at < length (now s)) × (length (now l) ≡ recordSize) ⌝ }
+pub fn record(s: &[u8], at: usize, numbers: &mut [u32]) -> Case
+    requires { ⌜ (at < length (now s)) × (length (now numbers) ≡ recordSize) ⌝ }
     ensures { λ r. ⌜ Taken (at + 1) (length (now (s .entry))) r ⌝ }
 {
     let n = s.len();
@@ -74,9 +74,9 @@ pub fn record(s: &[u8], at: usize, l: &mut [u32]) -> Case
     if given > MAX_OBJECTS {
         return bad(n);
     }
-    put_head(s, at, l);
-    put_vacant(l);
-    let slots = put_slots(s, at + HEAD, given, l);
+    put_head(s, at, numbers);
+    put_vacant(numbers);
+    let slots = put_slots(s, at + HEAD, given, numbers);
     if slots.bad {
         return bad(n);
     }
@@ -121,41 +121,41 @@ fn lent(s: &[u8], at: usize) -> Case
 }
 
 // Puts the numbers of a record that stand in front of its slots, read from `at` on.
-fn put_head(s: &[u8], at: usize, l: &mut [u32])
-    requires { ⌜ (at + 48 ≤ length (now s)) × (length (now l) ≡ recordSize) ⌝ }
+fn put_head(s: &[u8], at: usize, numbers: &mut [u32])
+    requires { ⌜ (at + 48 ≤ length (now s)) × (length (now numbers) ≡ recordSize) ⌝ }
 {
-    put_sizes(s, at, l);
-    put_counters(s, at, l);
-    put_flags(s, at, l);
+    put_sizes(s, at, numbers);
+    put_counters(s, at, numbers);
+    put_flags(s, at, numbers);
 }
 
 // Puts the memories' lengths and the panel's sides.
-fn put_sizes(s: &[u8], at: usize, l: &mut [u32])
-    requires { ⌜ (at + 48 ≤ length (now s)) × (length (now l) ≡ recordSize) ⌝ }
+fn put_sizes(s: &[u8], at: usize, numbers: &mut [u32])
+    requires { ⌜ (at + 48 ≤ length (now s)) × (length (now numbers) ≡ recordSize) ⌝ }
 {
-    l[numbers::PANEL_LEN] = read_most(s, at);
-    l[numbers::STORE_LEN] = read_most(s, at + 8);
-    l[numbers::WIDTH] = bigendian::read_u32(s, at + 16);
-    l[numbers::HEIGHT] = bigendian::read_u32(s, at + 20);
+    numbers[numbers::PANEL_LEN] = read_most(s, at);
+    numbers[numbers::STORE_LEN] = read_most(s, at + 8);
+    numbers[numbers::WIDTH] = bigendian::read_u32(s, at + 16);
+    numbers[numbers::HEIGHT] = bigendian::read_u32(s, at + 20);
 }
 
 // Puts the frame counter, the next handle and the count.
-fn put_counters(s: &[u8], at: usize, l: &mut [u32])
-    requires { ⌜ (at + 48 ≤ length (now s)) × (length (now l) ≡ recordSize) ⌝ }
+fn put_counters(s: &[u8], at: usize, numbers: &mut [u32])
+    requires { ⌜ (at + 48 ≤ length (now s)) × (length (now numbers) ≡ recordSize) ⌝ }
 {
-    l[numbers::FRAMES_HIGH] = bigendian::read_u32(s, at + 24);
-    l[numbers::FRAMES_LOW] = bigendian::read_u32(s, at + 28);
-    l[numbers::NEXT_HANDLE] = bigendian::read_u32(s, at + 32);
-    l[numbers::COUNT] = read_most(s, at + 38);
+    numbers[numbers::FRAMES_HIGH] = bigendian::read_u32(s, at + 24);
+    numbers[numbers::FRAMES_LOW] = bigendian::read_u32(s, at + 28);
+    numbers[numbers::NEXT_HANDLE] = bigendian::read_u32(s, at + 32);
+    numbers[numbers::COUNT] = read_most(s, at + 38);
 }
 
 // Puts the stock bitmap's mark, and the screen DC with its surface.
-fn put_flags(s: &[u8], at: usize, l: &mut [u32])
-    requires { ⌜ (at + 48 ≤ length (now s)) × (length (now l) ≡ recordSize) ⌝ }
+fn put_flags(s: &[u8], at: usize, numbers: &mut [u32])
+    requires { ⌜ (at + 48 ≤ length (now s)) × (length (now numbers) ≡ recordSize) ⌝ }
 {
     let screen = gdi::dc_on(surface_of(s[at + 37]));
-    encode::put_dc(&mut l[SCREEN..SLOTS], screen);
-    l[numbers::STOCK_DIRTY] = numbers::flag_number(s[at + 36] == 1);
+    encode::put_dc(&mut numbers[SCREEN..SLOTS], screen);
+    numbers[numbers::STOCK_DIRTY] = numbers::flag_number(s[at + 36] == 1);
 }
 
 // The number in the eight bytes from `at` on, a length or a count. One of over 32 bits is 0xFFFF_FFFF, refused with 9 as it is.
@@ -169,34 +169,34 @@ fn read_most(s: &[u8], at: usize) -> u32
 }
 
 // Puts a vacant slot in each place.
-fn put_vacant(l: &mut [u32])
-    requires { ⌜ length (now l) ≡ recordSize ⌝ }
+fn put_vacant(numbers: &mut [u32])
+    requires { ⌜ length (now numbers) ≡ recordSize ⌝ }
 {
     for k in 0usize..MAX_OBJECTS {
-        put_slot(l, k, gdi::vacant_slot());
+        put_slot(numbers, k, gdi::vacant_slot());
     }
 }
 
 // Puts slot k.
-fn put_slot(l: &mut [u32], k: usize, slot: Slot)
-    requires { ⌜ (length (now l) ≡ recordSize) × (k < 256) ⌝ }
+fn put_slot(numbers: &mut [u32], k: usize, slot: Slot)
+    requires { ⌜ (length (now numbers) ≡ recordSize) × (k < 256) ⌝ }
 {
     let p = SLOTS + SLOT * k;
     let e = p + SLOT;
-    encode::put_slot(&mut l[p..e], slot);
+    encode::put_slot(&mut numbers[p..e], slot);
 }
 
 // Puts the n slots from `at` on as the first ones.
-fn put_slots(s: &[u8], at: usize, n: usize, l: &mut [u32]) -> Slots
-    requires { ⌜ (at ≤ length (now s)) × ((n ≤ 256) × (length (now l) ≡ recordSize)) ⌝ }
-    ensures { λ r. ⌜ Behind at (length (now (s .entry))) r ⌝ }
+fn put_slots(s: &[u8], at: usize, n: usize, numbers: &mut [u32]) -> Slots
+    requires { ⌜ (at ≤ length (now s)) × ((n ≤ 256) × (length (now numbers) ≡ recordSize)) ⌝ }
+    ensures { λ r. ⌜ SlotsWithin at (length (now (s .entry))) r ⌝ }
 {
     let mut next = at;
     for k in 0..n {
         match read_slot(s, next) {
             SlotRead::Bad => return Slots { bad: true, next },
             SlotRead::Is(slot, end) => {
-                put_slot(l, k, slot);
+                put_slot(numbers, k, slot);
                 next = end;
             }
         }

@@ -36,45 +36,49 @@ struct Crcs {
 }
 
 // What the calls say of a record, on memories of the lengths that are lent with it.
-pub fn on_memories(l: &[u32], case: Case) -> Told
-    requires { ⌜ length (now l) ≡ recordSize ⌝ }
+pub fn on_memories(numbers: &[u32], case: Case) -> Told
+    requires { ⌜ length (now numbers) ≡ recordSize ⌝ }
     requires { ⌜ (case .«panel_lent» ≤ 65536) × (case .«store_lent» ≤ 65536) ⌝ }
 {
     let mut panel = [0u8; read::MOST_LENT];
     let mut store = [0u8; read::MOST_LENT];
-    on_parts(l, case, &mut panel, &mut store)
+    on_parts(numbers, case, &mut panel, &mut store)
 }
 
 // The same on the first bytes of longer memories.
-fn on_parts(l: &[u32], case: Case, panel: &mut [u8], store: &mut [u8]) -> Told
-    requires { ⌜ length (now l) ≡ recordSize ⌝ }
+fn on_parts(numbers: &[u32], case: Case, panel: &mut [u8], store: &mut [u8]) -> Told
+    requires { ⌜ length (now numbers) ≡ recordSize ⌝ }
     requires { ⌜ (case .«panel_lent» ≤ length (now panel)) × (case .«store_lent» ≤ length (now store)) ⌝ }
 {
     let panel_lent = case.panel_lent;
     let store_lent = case.store_lent;
-    by_all(l, &mut panel[0..panel_lent], &mut store[0..store_lent])
+    by_all(
+        numbers,
+        &mut panel[0..panel_lent],
+        &mut store[0..store_lent],
+    )
 }
 
 // What all calls say, each on the record as it is and on fresh memories.
-fn by_all(l: &[u32], panel: &mut [u8], store: &mut [u8]) -> Told
-    requires { ⌜ length (now l) ≡ recordSize ⌝ }
+fn by_all(numbers: &[u32], panel: &mut [u8], store: &mut [u8]) -> Told
+    requires { ⌜ length (now numbers) ≡ recordSize ⌝ }
 {
     fill(panel);
     fill(store);
     let was = crcs_of(panel, store);
-    let first = by_one(l, 0, was, panel, store);
+    let first = by_one(numbers, 0, was, panel, store);
     let Told::Number(no) = first else {
         return first;
     };
-    by_others(l, no, was, panel, store)
+    by_others(numbers, no, was, panel, store)
 }
 
 // What all calls say if the first says this number.
-fn by_others(l: &[u32], no: u32, was: Crcs, panel: &mut [u8], store: &mut [u8]) -> Told
-    requires { ⌜ length (now l) ≡ recordSize ⌝ }
+fn by_others(numbers: &[u32], no: u32, was: Crcs, panel: &mut [u8], store: &mut [u8]) -> Told
+    requires { ⌜ length (now numbers) ≡ recordSize ⌝ }
 {
     for k in 1u8..TRIES {
-        let next = by_one(l, k, was, panel, store);
+        let next = by_one(numbers, k, was, panel, store);
         let Told::Number(other) = next else {
             return next;
         };
@@ -86,24 +90,24 @@ fn by_others(l: &[u32], no: u32, was: Crcs, panel: &mut [u8], store: &mut [u8]) 
 }
 
 // What try k says, on a copy of the record. The memories, filled, have these CRCs.
-fn by_one(l: &[u32], k: u8, was: Crcs, panel: &mut [u8], store: &mut [u8]) -> Told
-    requires { ⌜ length (now l) ≡ recordSize ⌝ }
+fn by_one(numbers: &[u32], k: u8, was: Crcs, panel: &mut [u8], store: &mut [u8]) -> Told
+    requires { ⌜ length (now numbers) ≡ recordSize ⌝ }
 {
     let mut copy = [0u32; numbers::RECORD];
-    same::copy(l, &mut copy);
-    on_copy(l, &mut copy, k, was, panel, store)
+    same::copy(numbers, &mut copy);
+    on_copy(numbers, &mut copy, k, was, panel, store)
 }
 
 // What try k says, on this copy of the record.
 fn on_copy(
-    l: &[u32],
+    numbers: &[u32],
     copy: &mut [u32],
     k: u8,
     was: Crcs,
     panel: &mut [u8],
     store: &mut [u8],
 ) -> Told
-    requires { ⌜ length (now copy) ≡ length (now l) ⌝ }
+    requires { ⌜ length (now copy) ≡ length (now numbers) ⌝ }
 {
     fill(panel);
     fill(store);
@@ -112,7 +116,7 @@ fn on_copy(
         return Told::Number(0);
     }
     if same_crcs(was, crcs_of(panel, store)) {
-        if same::are_same(l, copy) {
+        if same::are_same(numbers, copy) {
             return Told::Number(no);
         }
     }

@@ -7,7 +7,7 @@ use native.Mathlib.Decide.{decLt}
 use native.Mathlib.Omega.{arith}
 use lib.Dec.{eqb}
 use borrow.Author.Tests.{ne-eqb}
-use Rattle.laws.proofs.Sum.{sum-none, sum-suc, sum-le}
+use Rattle.arithmetic.proofs.Sum.{sum-none, sum-suc, sum-le}
 use Rattle.gdi.specs.declared.GdiState.{GdiState}
 use Rattle.gdi.specs.declared.Slot.{Slot}
 use Rattle.gdi.specs.declared.GdiObject.{GdiObject}
@@ -22,7 +22,7 @@ use Rattle.place.specs.declared.Memory.the-variants.{Store}
 use Rattle.place.specs.declared.Place.{Place}
 use Rattle.place.specs.declared.Place.the-variants.{Nowhere, At}
 use Rattle.place.specs.declared.SurfaceId.the-variants.{Bitmap}
-use Rattle.place.specs.Place.{slotsFrom, live, frameOf, locate, whereIs}
+use Rattle.place.specs.Place.{slotsFrom, live, placeFrom, locate, whereIs}
 use Rattle.removal.specs.Removal.{withoutAt}
 
 -- an object's bytes lie among those used, and these in the store
@@ -39,14 +39,14 @@ pub data Shift (a n e : ℕ) : Place → Place → Type 0 where
   below : (p w h : ℕ) → p + size w h ≤ a → Shift a n e (At Store p w h) (At Store p w h)
   above : (p q w h : ℕ) → q ≡ p + n → a ≤ p → q + size w h ≤ e → Shift a n e (At Store p w h) (At Store q w h)
 
-frame-below : (o : GdiObject) (p a n e : ℕ) → p + bytesOf o ≤ a → Shift a n e (frameOf o p) (frameOf o p)
+frame-below : (o : GdiObject) (p a n e : ℕ) → p + bytesOf o ≤ a → Shift a n e (placeFrom o p) (placeFrom o p)
 frame-below (DcOf d) p a n e c = gone
 frame-below (BitmapOf m) p a n e c = below p (m .width) (m .height) c
 frame-below (Brush x) p a n e c = gone
 frame-below (Pen x) p a n e c = gone
 frame-below (Font x) p a n e c = gone
 
-frame-above : (o : GdiObject) (p q a n e : ℕ) → q ≡ p + n → a ≤ p → q + bytesOf o ≤ e → Shift a n e (frameOf o p) (frameOf o q)
+frame-above : (o : GdiObject) (p q a n e : ℕ) → q ≡ p + n → a ≤ p → q + bytesOf o ≤ e → Shift a n e (placeFrom o p) (placeFrom o q)
 frame-above (DcOf d) p q a n e s i c = gone
 frame-above (BitmapOf m) p q a n e s i c = above p q (m .width) (m .height) s i c
 frame-above (Brush x) p q a n e s i c = gone
@@ -92,8 +92,8 @@ module _ (b : GdiState) (s : Sound b) (i : ℕ) (lt : i < b .count) where
       by : (t : Bool)
           → Moved (locate (slotsFrom (withoutAt b i .objects) (suc c) m) (p + bytes (suc c)) k) (locate (slotsFrom (b .objects) (suc (suc c)) m) (q + bytes (suc c)) k)
           → Moved
-          (cond t (frameOf (objectAt b (suc c)) p) (locate (slotsFrom (withoutAt b i .objects) (suc c) m) (p + bytes (suc c)) k))
-          (cond t (frameOf (objectAt b (suc c)) q) (locate (slotsFrom (b .objects) (suc (suc c)) m) (q + bytes (suc c)) k))
+          (cond t (placeFrom (objectAt b (suc c)) p) (locate (slotsFrom (withoutAt b i .objects) (suc c) m) (p + bytes (suc c)) k))
+          (cond t (placeFrom (objectAt b (suc c)) q) (locate (slotsFrom (b .objects) (suc (suc c)) m) (q + bytes (suc c)) k))
       by true rest = frame-above (objectAt b (suc c)) p q _ _ _ eq pl (omega (arith, sum-le bytes (suc c) (b .count) (omega arith)))
       by false rest = rest
 
@@ -117,8 +117,8 @@ module _ (b : GdiState) (s : Sound b) (i : ℕ) (lt : i < b .count) where
           here : (t : Bool)
               → Moved (locate (slotsFrom (withoutAt b i .objects) (suc c) m) (p + bytes c) k) (locate (slotsFrom (b .objects) (suc c) (suc m)) (p + bytes c) k)
               → Moved
-              (cond t (frameOf (objectAt b c) p) (locate (slotsFrom (withoutAt b i .objects) (suc c) m) (p + bytes c) k))
-              (cond t (frameOf (objectAt b c) p) (locate (slotsFrom (b .objects) (suc c) (suc m)) (p + bytes c) k))
+              (cond t (placeFrom (objectAt b c) p) (locate (slotsFrom (withoutAt b i .objects) (suc c) m) (p + bytes c) k))
+              (cond t (placeFrom (objectAt b c) p) (locate (slotsFrom (b .objects) (suc c) (suc m)) (p + bytes c) k))
           here true r = frame-below (objectAt b c) p _ _ _ (omega (arith, sum-le bytes c i d))
           here false r = r
 

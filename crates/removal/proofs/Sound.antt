@@ -6,9 +6,9 @@ use native.Mathlib.Decide.{decLt}
 use native.Mathlib.Omega.{arith}
 use lib.Dec.{eqb}
 use borrow.Author.Tests.{ne-eqb}
-use Rattle.laws.specs.Sum.{sumBelow}
-use Rattle.laws.proofs.Test.{each, all-of}
-use Rattle.laws.proofs.Sum.{sum-suc, sum-same}
+use Rattle.arithmetic.specs.Sum.{sumBelow}
+use Rattle.arithmetic.proofs.Test.{each, all-of}
+use Rattle.arithmetic.proofs.Sum.{sum-suc, sum-same}
 use Rattle.gdi.specs.declared.GdiState.{GdiState}
 use Rattle.gdi.specs.declared.Slot.{Slot}
 use Rattle.gdi.specs.Record.{bytesOf}

@@ -7,14 +7,14 @@ use native.Mathlib.Decide.{decLt}
 use native.Mathlib.Omega.{arith}
 use lib.ListN.{length, take, drop, getD, set, length-set, length-drop}
 use lib.Seq.{paste, ext-getD, getD-drop, getD-set-same, getD-set-other}
-use Rattle.laws.proofs.Test.{all-of}
+use Rattle.arithmetic.proofs.Test.{all-of}
 use Rattle.words.specs.Parts.{part, withPart}
 use Rattle.words.proofs.Parts.{length-part, length-with, with-before, with-within, with-behind}
 use Rattle.gdi.specs.Record.{noSlot, vacantSlot}
 use Rattle.gdi.specs.Lookup.{slotAt}
 use Rattle.numbers.specs.Layout.{dcSize, slotSize, recordSize, nextHandlePlace, stockDirtyPlace, countPlace, screenPlace, slotsPlace, slotPlace}
 use Rattle.numbers.specs.Block.{at, isDc, slotOf, isSlot}
-use Rattle.numbers.specs.View.{slotIn, view, isRecord, Stored}
+use Rattle.numbers.specs.View.{slotIn, view, isRecord, Updated}
 use Rattle.numbers.proofs.Record.{parts, by-slots}
 use Rattle.numbers.proofs.Seen.{part-at}
 use Rattle.numbers.proofs.Updates.{objects-seen}
@@ -142,8 +142,8 @@ module _ (l l′ : List ℕ) (r : isRecord l ≡ true) (i : ℕ) (lt : i < at l 
       ext-getD 0 (drop (slotPlace (at l countPlace - 1)) l′) (drop (slotPlace (at l countPlace - 1)) l) (simp (length-drop, down .long))
       (λ j h. getD-drop (slotPlace (at l countPlace - 1)) l′ j 0 ∙ down .behind (slotPlace (at l countPlace - 1) + j) (omega arith) ∙ sym (getD-drop (slotPlace (at l countPlace - 1)) l j 0))
 
-  down-stored : Stored l (withoutAt (view l) i) l′
-  down-stored = record { is-record = good; same = seen; rest = rest }
+  down-updated : Updated l (withoutAt (view l) i) l′
+  down-updated = record { is-record = good; same = seen; rest = rest }
 
 -- as the code moves the numbers and stores the count
 module _ (l : List ℕ) (r : isRecord l ≡ true) (i : ℕ) (lt : i < at l countPlace) where
@@ -154,8 +154,8 @@ module _ (l : List ℕ) (r : isRecord l ≡ true) (i : ℕ) (lt : i < at l count
   last-room = omega (arith, parts l r .few, parts l r .long)
 
   pub moved-down : (t : List ℕ) → t ≡ paste l (slotPlace i) (drop (slotPlace i + slotSize) l) (end - slotPlace i)
-      → Stored l (withoutAt (view l) i) (set t countPlace (at l countPlace - 1))
-  moved-down t e = down-stored l (set t countPlace (at l countPlace - 1)) r i lt
+      → Updated l (withoutAt (view l) i) (set t countPlace (at l countPlace - 1))
+  moved-down t e = down-updated l (set t countPlace (at l countPlace - 1)) r i lt
       (record {
         long = length-set t countPlace (at l countPlace - 1) ∙ long;
         count = getD-set-same t countPlace (at l countPlace - 1) 0 (omega (arith, long, last-room));

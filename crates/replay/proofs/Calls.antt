@@ -11,7 +11,7 @@ use Rattle.bigendian.specs.BigEndian.{be32}
 use Rattle.plan.specs.declared.Call.{Call}
 use Rattle.script.specs.declared.CallRead.{CallRead}
 use Rattle.script.specs.declared.CallRead.the-variants.{End, Bad, Look, Is}
-use Rattle.script.specs.Script.{Behind, Read, callOf, callAt}
+use Rattle.script.specs.Script.{EndsWithin, Read, scriptCall, callAt}
 use Rattle.replay.specs.Calls.{CallBytes}
 
 -- where the text at a byte may end
@@ -28,19 +28,19 @@ units-end at n true false c e = tt
 units-end at n false there c e = tt
 
 module _ (s : List ℕ) (at : ℕ) where
-  text-ends : TextEnds at (callOf 15 s (at + 1))
-  unfolding callOf
+  text-ends : TextEnds at (scriptCall 15 s (at + 1))
+  unfolding scriptCall
   text-ends =
       let n = be32 s (at + 1 + 12) in
       units-end at n (leb n 70000) (leb (at + 1 + (16 + 2 * n)) (length s)) _ refl
 
-  text-at : at < length s → getD s at 0 ≡ 15 → callAt s at ≡ callOf 15 s (at + 1)
+  text-at : at < length s → getD s at 0 ≡ 15 → callAt s at ≡ scriptCall 15 s (at + 1)
   unfolding callAt
   text-at lt k = rw (lt-ltb at (length s) lt, k)
 
 module _ {s : List ℕ} {at next : ℕ} {r : CallRead} {c : Call} (h : Read s at r) (e : r ≡ Is c next) where
   behind : (at < next) × (next ≤ length s)
-  behind = subst (Behind s at) e (h .behind)
+  behind = subst (EndsWithin s at) e (h .behind)
 
   pub ahead : at < next
   ahead = behind .0

@@ -71,8 +71,8 @@ fn serve(s: &[u8], h: Header, picture: bool) {
 fn lend(s: &[u8], h: Header, picture: bool)
     requires { ⌜ (h .«panel_len» ≤ 1048576) × (h .«store_len» ≤ 4194304) ⌝ }
 {
-    let mut bench = [0u32; numbers::RECORD];
+    let mut device = [0u32; numbers::RECORD];
     let mut panel = [0u8; MOST_PANEL];
     let mut store = [0u8; MOST_STORE];
-    session::on_parts(s, h, picture, &mut bench, &mut panel, &mut store);
+    session::on_parts(s, h, picture, &mut device, &mut panel, &mut store);
 }

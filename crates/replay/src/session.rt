@@ -1,4 +1,4 @@
-// A script's bench from open to its end, on lent memories.
+// A script's device from open to its end, on lent memories.
 use crate::answer;
 use crate::state;
 ghost use mathlib.Core.Path.{_≡_};
@@ -20,11 +20,11 @@ pub fn on_parts(
     s: &[u8],
     h: Header,
     picture: bool,
-    bench: &mut [u32],
+    device: &mut [u32],
     panel: &mut [u8],
     store: &mut [u8],
 )
-    requires { ⌜ length (now bench) ≡ recordSize ⌝ }
+    requires { ⌜ length (now device) ≡ recordSize ⌝ }
     requires { ⌜ (h .«panel_len» ≤ length (now panel)) × (h .«store_len» ≤ length (now store)) ⌝ }
 {
     let panel_len = h.panel_len as usize;
@@ -33,23 +33,23 @@ pub fn on_parts(
         s,
         h,
         picture,
-        bench,
+        device,
         &mut panel[0..panel_len],
         &mut store[0..store_len],
     );
 }
 
 // A session on memories that are lent whole.
-fn run(s: &[u8], h: Header, picture: bool, bench: &mut [u32], panel: &mut [u8], store: &mut [u8])
-    requires { ⌜ length (now bench) ≡ recordSize ⌝ }
+fn run(s: &[u8], h: Header, picture: bool, device: &mut [u32], panel: &mut [u8], store: &mut [u8])
+    requires { ⌜ length (now device) ≡ recordSize ⌝ }
 {
     fill(panel, h.fill);
     fill(store, h.fill);
-    let refusal = open::open(bench, panel, store, h.width, h.height);
+    let refusal = open::open(device, panel, store, h.width, h.height);
     if picture {
-        write_picture(s, refusal, bench, panel, store);
+        write_picture(s, refusal, device, panel, store);
     } else {
-        print_lines(s, refusal, bench, panel, store);
+        print_lines(s, refusal, device, panel, store);
     }
 }
 
@@ -69,28 +69,28 @@ fn print_open(refusal: u32) {
 }
 
 // The line of open, those of the calls unless it was refused, and the state lines.
-fn print_lines(s: &[u8], refusal: u32, bench: &mut [u32], panel: &mut [u8], store: &mut [u8])
-    requires { ⌜ length (now bench) ≡ recordSize ⌝ }
+fn print_lines(s: &[u8], refusal: u32, device: &mut [u32], panel: &mut [u8], store: &mut [u8])
+    requires { ⌜ length (now device) ≡ recordSize ⌝ }
 {
     print_open(refusal);
     if refusal != 0 {
-        state::print(bench, panel, store);
+        state::print(device, panel, store);
         return;
     }
-    perform_all(s, true, bench, panel, store);
-    state::print(bench, panel, store);
+    perform_all(s, true, device, panel, store);
+    state::print(device, panel, store);
 }
 
 // The panel after the calls as a picture, or the line of open if it was refused.
-fn write_picture(s: &[u8], refusal: u32, bench: &mut [u32], panel: &mut [u8], store: &mut [u8])
-    requires { ⌜ length (now bench) ≡ recordSize ⌝ }
+fn write_picture(s: &[u8], refusal: u32, device: &mut [u32], panel: &mut [u8], store: &mut [u8])
+    requires { ⌜ length (now device) ≡ recordSize ⌝ }
 {
     if refusal != 0 {
         print_open(refusal);
         return;
     }
-    perform_all(s, false, bench, panel, store);
-    write_panel(panel, bench[numbers::WIDTH], bench[numbers::HEIGHT]);
+    perform_all(s, false, device, panel, store);
+    write_panel(panel, device[numbers::WIDTH], device[numbers::HEIGHT]);
 }
 
 // A panel of these sides as a picture, if it has the bytes for them.
@@ -105,20 +105,20 @@ fn write_panel(panel: &[u8], width: u32, height: u32) {
 }
 
 // Performs call after call, to the script's end or a bad one, and prints them and what looks ask for if they are shown.
-fn perform_all(s: &[u8], shown: bool, bench: &mut [u32], panel: &mut [u8], store: &mut [u8])
-    requires { ⌜ length (now bench) ≡ recordSize ⌝ }
+fn perform_all(s: &[u8], shown: bool, device: &mut [u32], panel: &mut [u8], store: &mut [u8])
+    requires { ⌜ length (now device) ≡ recordSize ⌝ }
 {
     let mut units = [0u16; script::MAX_UNITS];
     let mut at = script::HEADER;
     while at < s.len() {
         match script::read_call(s, at) {
             CallRead::Look => {
-                state::show(bench, panel, store, shown);
+                state::show(device, panel, store, shown);
                 at += 1;
             }
             CallRead::Is(call, next) => {
                 let n = take_units(s, at, next, &mut units);
-                let a = perform::perform(bench, call, &units[0..n], panel, store);
+                let a = perform::perform(device, call, &units[0..n], panel, store);
                 answer::show(s[at], a, shown);
                 at = next;
             }

@@ -20,32 +20,32 @@ use numbers::STOCK_DIRTY;
 use numbers::WIDTH;
 
 // Prints a record, and the CRCs of its memories, if they are shown.
-pub fn show(bench: &[u32], panel: &[u8], store: &[u8], shown: bool)
-    requires { ⌜ length (now bench) ≡ recordSize ⌝ }
+pub fn show(device: &[u32], panel: &[u8], store: &[u8], shown: bool)
+    requires { ⌜ length (now device) ≡ recordSize ⌝ }
 {
     if shown {
-        print(bench, panel, store);
+        print(device, panel, store);
     }
 }
 
 // Prints a record, and the CRCs of its memories.
-pub fn print(bench: &[u32], panel: &[u8], store: &[u8])
-    requires { ⌜ length (now bench) ≡ recordSize ⌝ }
+pub fn print(device: &[u32], panel: &[u8], store: &[u8])
+    requires { ⌜ length (now device) ≡ recordSize ⌝ }
 {
-    print_counters(bench);
-    print_screen(bench);
-    print_objects(bench);
+    print_counters(device);
+    print_screen(device);
+    print_objects(device);
     print_crcs(crc32::crc32(panel), crc32::crc32(store));
 }
 
 // Prints a record's numbers.
-fn print_counters(bench: &[u32])
-    requires { ⌜ length (now bench) ≡ recordSize ⌝ }
+fn print_counters(device: &[u32])
+    requires { ⌜ length (now device) ≡ recordSize ⌝ }
 {
-    let frames = frames_of(bench[FRAMES_LOW], bench[FRAMES_HIGH]);
-    let sides = sides(bench[WIDTH], bench[HEIGHT]);
-    let counters = add_counters(sides, frames, bench[NEXT_HANDLE]);
-    add_objects(counters, bench[STOCK_DIRTY] == 1, bench[COUNT]).print();
+    let frames = frames_of(device[FRAMES_LOW], device[FRAMES_HIGH]);
+    let sides = sides(device[WIDTH], device[HEIGHT]);
+    let counters = add_counters(sides, frames, device[NEXT_HANDLE]);
+    add_objects(counters, device[STOCK_DIRTY] == 1, device[COUNT]).print();
 }
 
 // A frame counter, by its halves.
@@ -87,23 +87,23 @@ fn add_objects(l: Line, stock_dirty: bool, count: u32) -> Line
 }
 
 // Prints the screen DC.
-fn print_screen(bench: &[u32])
-    requires { ⌜ length (now bench) ≡ recordSize ⌝ }
+fn print_screen(device: &[u32])
+    requires { ⌜ length (now device) ≡ recordSize ⌝ }
 {
     let l = lines::empty().text(b"dc ").hex8(GDI_SCREEN_DC).space();
-    object::add_dc(l, numbers::dc_of(&bench[SCREEN..SLOTS])).print();
+    object::add_dc(l, numbers::dc_of(&device[SCREEN..SLOTS])).print();
 }
 
 // Prints the created objects in order.
-fn print_objects(bench: &[u32])
-    requires { ⌜ length (now bench) ≡ recordSize ⌝ }
+fn print_objects(device: &[u32])
+    requires { ⌜ length (now device) ≡ recordSize ⌝ }
 {
-    let count = bench[COUNT] as usize;
+    let count = device[COUNT] as usize;
     for i in 0usize..MAX_OBJECTS {
         if i < count {
             let p = SLOTS + SLOT * i;
             let e = p + SLOT;
-            print_object(numbers::slot_of(&bench[p..e]));
+            print_object(numbers::slot_of(&device[p..e]));
         }
     }
 }

@@ -5,7 +5,7 @@ use native.Mathlib.Omega.{arith}
 use lib.Bits.{bitAnd, bitXor, and-step, xor-step, differ as xorBit}
 use lib.Dec.{eqb}
 use borrow.Author.Tests.{eqb-true}
-use Rattle.laws.proofs.Test.{each}
+use Rattle.arithmetic.proofs.Test.{each}
 use Rattle.rop3.specs.Rop3.{bit, fromBits}
 use Rattle.rop3.specs.Inner.{pick}
 

@@ -4,8 +4,8 @@ use mathlib.Core.Bool.{false}
 use Prim.Native.Nat.{ℕ, _<_}
 use lib.Dec.{eqb}
 use borrow.Author.Tests.{eqb-true, not-false}
-use Rattle.laws.specs.Test.{anyBelow}
-use Rattle.laws.proofs.Test.{none}
+use Rattle.arithmetic.specs.Test.{anyBelow}
+use Rattle.arithmetic.proofs.Test.{none}
 use Rattle.rop3.specs.Rop3.{bit, result, applied, differ, uses, usesSrc, usesDst}
 use Rattle.rop3.proofs.Bits.{Digit, off, on, bit-digit, bit-lt, fromBits-cong}
 

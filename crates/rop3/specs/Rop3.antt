@@ -2,7 +2,7 @@
 use mathlib.Core.Bool.{Bool, not}
 use Prim.Native.Nat.{ℕ, zero, suc, _+_, _*_, _/_, _%_}
 use lib.Dec.{eqb}
-use Rattle.laws.specs.Test.{anyBelow}
+use Rattle.arithmetic.specs.Test.{anyBelow}
 
 -- bit n of v, 0 or 1
 abbrev pub bit : ℕ → ℕ → ℕ

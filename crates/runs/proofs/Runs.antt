@@ -6,8 +6,8 @@ use Prim.Native.Nat.{ℕ, zero, suc, _+_, _*_, _-_, _/_, _%_, _≤_, _<_}
 use native.Mathlib.Decide.{ℕ-discrete}
 use native.Mathlib.Omega.{arith}
 use lib.ListN.{length, set, getD}
-use Rattle.laws.specs.Interval.{between}
-use Rattle.laws.proofs.Interval.{between-yes, between-no, between-cong, bounds}
+use Rattle.arithmetic.specs.Interval.{between}
+use Rattle.arithmetic.proofs.Interval.{between-yes, between-no, between-cong, bounds}
 use Rattle.words.specs.Words.{written, painted, word, byteOf}
 use Rattle.words.proofs.Painted.{painted-none, painted-same, painted-set, word-painted, word-kept, word-lt, low-byte, high-byte}
 use Rattle.words.proofs.Written.{written-at, written-none, written-same, written-set}

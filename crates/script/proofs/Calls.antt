@@ -11,12 +11,12 @@ use lib.IntN.{ℤ}
 use lib.ListN.{length}
 use lib.Signed.{mag}
 use borrow.Author.Tests.{leb-true, le-leb, lt-leb, ne-eqb}
-use Rattle.laws.proofs.Machine.{held32, stored32}
+use Rattle.arithmetic.proofs.Machine.{held32, stored32}
 use Rattle.bigendian.specs.BigEndian.{be32}
 use Rattle.plan.specs.declared.Call.{Call}
 use Rattle.script.specs.declared.CallRead.{CallRead}
 use Rattle.script.specs.declared.CallRead.the-variants.{Bad}
-use Rattle.script.specs.Script.{sized, callOf, entryOf, Behind}
+use Rattle.script.specs.Script.{sized, scriptCall, entryOf, EndsWithin}
 
 pub either-bad : (b : Bool) → cond b Bad Bad ≡ Bad
 either-bad true = refl
@@ -36,39 +36,39 @@ module _ (s : List ℕ) (p k : ℕ) where
   short m le h = lt-leb (p + m) (length s) (omega arith)
 
   -- the first argument is cut, and the call has one
-  pub first-cut : (k ≡ 1 → ⊥) → length s < p + 4 → Bad ≡ callOf k s p
-  unfolding callOf
+  pub first-cut : (k ≡ 1 → ⊥) → length s < p + 4 → Bad ≡ scriptCall k s p
+  unfolding scriptCall
   first-cut n h =
       rw (ne-eqb k 1 n, short 4 (omega arith) h, short 8 (omega arith) h, short 20 (omega arith) h)
       (rw (short 24 (omega arith) h, short 36 (omega arith) h, longer s p (omega arith) h) (simp either-bad))
 
   -- the second argument is cut, and the call has two
-  pub second-cut : (k ≡ 1 → ⊥) → (k ≡ 3 → ⊥) → (k ≡ 5 → ⊥) → (k ≡ 6 → ⊥) → (k ≡ 7 → ⊥) → (k ≡ 16 → ⊥) → length s < p + 8 → Bad ≡ callOf k s p
-  unfolding callOf
+  pub second-cut : (k ≡ 1 → ⊥) → (k ≡ 3 → ⊥) → (k ≡ 5 → ⊥) → (k ≡ 6 → ⊥) → (k ≡ 7 → ⊥) → (k ≡ 16 → ⊥) → length s < p + 8 → Bad ≡ scriptCall k s p
+  unfolding scriptCall
   second-cut n₁ n₃ n₅ n₆ n₇ n₁₆ h =
       rw (ne-eqb k 1 n₁, ne-eqb k 3 n₃, ne-eqb k 5 n₅, ne-eqb k 6 n₆, ne-eqb k 7 n₇, ne-eqb k 16 n₁₆)
       (rw (short 8 (omega arith) h, short 20 (omega arith) h, short 24 (omega arith) h, short 36 (omega arith) h, longer s p (omega arith) h) (simp either-bad))
 
   -- a pattern fill, a rectangle or a blit whose area is cut, and one whose next argument is
   module _ (range : (13 ≤ k) × (14 < k → k ≡ 18)) where
-    pub next-cut : (k ≡ 14 → ⊥) → length s < p + 24 → Bad ≡ callOf k s p
-    unfolding callOf
+    pub next-cut : (k ≡ 14 → ⊥) → length s < p + 24 → Bad ≡ scriptCall k s p
+    unfolding scriptCall
     next-cut n h = by (ℕ-discrete k 13)
       where
-        by : Dec (k ≡ 13) → Bad ≡ callOf k s p
+        by : Dec (k ≡ 13) → Bad ≡ scriptCall k s p
         by (yes e) = rw (e, short 24 (omega arith) h)
         by (no m) = rw (range .1 (omega arith), short 36 (omega arith) h)
 
-    pub area-cut : length s < p + 20 → Bad ≡ callOf k s p
-    unfolding callOf
+    pub area-cut : length s < p + 20 → Bad ≡ scriptCall k s p
+    unfolding scriptCall
     area-cut h = by (ℕ-discrete k 14)
       where
-        by : Dec (k ≡ 14) → Bad ≡ callOf k s p
+        by : Dec (k ≡ 14) → Bad ≡ scriptCall k s p
         by (yes e) = rw (e, short 20 (omega arith) h)
         by (no n) = next-cut n (omega arith)
 
-  pub no-call : 18 < k → Bad ≡ callOf k s p
-  unfolding callOf
+  pub no-call : 18 < k → Bad ≡ scriptCall k s p
+  unfolding scriptCall
   no-call h =
       rw (other 1 refl, other 2 refl, other 3 refl, other 4 refl, other 5 refl, other 6 refl, other 7 refl, other 8 refl, other 9 refl)
       (rw (other 10 refl, other 11 refl, other 12 refl, other 13 refl, other 14 refl, other 15 refl, other 16 refl, other 17 refl, other 18 refl))
@@ -77,7 +77,7 @@ module _ (s : List ℕ) (p k : ℕ) where
       other n t = ne-eqb k n (λ e. omega (arith, leb-true n 18 t))
 
 record Ends (s : List ℕ) (at : ℕ) (r : CallRead) : Type 0 where
-  ends : Behind s at r
+  ends : EndsWithin s at r
 
 -- a call that is read at `at` ends behind it
 module _ (s : List ℕ) (at : ℕ) where
@@ -92,8 +92,8 @@ module _ (s : List ℕ) (at : ℕ) where
       by (yes h) = rw (le-leb (at + 1 + n) (length s) h) (record { ends = (omega arith, h) })
       by (no h) = rw (lt-leb (at + 1 + n) (length s) (omega arith)) (record { ends = tt })
 
-  call-ends : (k : ℕ) → Ends s at (callOf k s (at + 1))
-  unfolding callOf
+  call-ends : (k : ℕ) → Ends s at (scriptCall k s (at + 1))
+  unfolding scriptCall
   call-ends k =
       either (eqb k 1) (sized-ends 0 _) (
       either (eqb k 2) (sized-ends 8 _) (
@@ -114,5 +114,5 @@ module _ (s : List ℕ) (at : ℕ) where
       either (eqb k 17) (sized-ends 8 _) (
       either (eqb k 18) (sized-ends 36 _) (record { ends = tt }))))))))))))))))))
 
-  pub entry-behind : (k : ℕ) → Behind s at (entryOf k s (at + 1))
+  pub entry-behind : (k : ℕ) → EndsWithin s at (entryOf k s (at + 1))
   entry-behind k = either (eqb k 0x7F) (record { ends = tt }) (call-ends k) .ends

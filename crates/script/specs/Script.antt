@@ -41,8 +41,8 @@ unitsIn s p (suc n) = be16 s p ∷ unitsIn s (p + 2) n
 
 -- The call of byte k, whose arguments start at p: 32 bits each. A background mode is 0 or 1, a panel fill has no high bit set,
 -- and a text's number of units, the last of its arguments, is at most 70,000; its units stand behind them.
-unfoldable pub callOf : (k : ℕ) → List ℕ → (p : ℕ) → CallRead
-callOf k s p =
+unfoldable pub scriptCall : (k : ℕ) → List ℕ → (p : ℕ) → CallRead
+scriptCall k s p =
     cond (eqb k 1) (sized s p 0 CreateMemoryDc) (
     cond (eqb k 2) (sized s p 8 (CreateCompatibleBitmap (be32 s p) (be32 s (p + 4)))) (
     cond (eqb k 3) (sized s p 4 (CreateSolidBrush (record { 0 = be32 s p }))) (
@@ -63,21 +63,21 @@ callOf k s p =
     cond (eqb k 18) (sized s p 36 (Blit (be32 s p) (areaAt s (p + 4)) (be32 s (p + 20)) (pointAt s (p + 24)) (be32 s (p + 32))))
     Bad)))))))))))))))))
 
--- the byte 7F is a look, which has no arguments and is no call on the bench
+-- the byte 7F is a look, which has no arguments and is no call on the device
 abbrev pub entryOf : (k : ℕ) → List ℕ → (p : ℕ) → CallRead
-entryOf k s p = cond (eqb k 0x7F) Look (callOf k s p)
+entryOf k s p = cond (eqb k 0x7F) Look (scriptCall k s p)
 
 -- what stands at a byte of the script: its end, a look or a call
 unfoldable pub callAt : List ℕ → ℕ → CallRead
 callAt s at = cond (ltb at (length s)) (entryOf (getD s at 0) s (at + 1)) End
 
 -- a call that was read ends behind its start and within the script
-abbrev pub Behind : List ℕ → ℕ → CallRead → Type 0
-Behind s at End = Unit
-Behind s at Bad = Unit
-Behind s at Look = Unit
-Behind s at (Is c next) = (at < next) × (next ≤ length s)
+abbrev pub EndsWithin : List ℕ → ℕ → CallRead → Type 0
+EndsWithin s at End = Unit
+EndsWithin s at Bad = Unit
+EndsWithin s at Look = Unit
+EndsWithin s at (Is c next) = (at < next) × (next ≤ length s)
 
 pub record Read (s : List ℕ) (at : ℕ) (r : CallRead) : Type 0 where
   pub same : r ≡ callAt s at
-  pub behind : Behind s at r
+  pub behind : EndsWithin s at r

@@ -3,7 +3,7 @@ ghost use mathlib.Core.List.{_++_};
 ghost use mathlib.Core.Path.{_≡_};
 ghost use Prim.Native.Nat.{_≤_, _<_, _+_, _*_};
 ghost use lib.ListN.{length, drop};
-ghost use Rattle.script.specs.Script.{headerOf, pointAt, areaAt, unitsIn, callOf, entryOf, Read};
+ghost use Rattle.script.specs.Script.{headerOf, pointAt, areaAt, unitsIn, scriptCall, entryOf, Read};
 use color::Colorref;
 use color::Rgb565;
 use plan::Area;
@@ -66,7 +66,7 @@ pub fn read_header(s: &[u8]) -> HeaderRead
 fn read_create(s: &[u8], k: u8, p: usize) -> CallRead
     requires { ⌜ (1 ≤ k) × (k ≤ 5) ⌝ }
     requires { ⌜ p ≤ length (now s) ⌝ }
-    ensures { λ r. ⌜ r ≡ callOf k (now (s .entry)) p ⌝ }
+    ensures { λ r. ⌜ r ≡ scriptCall k (now (s .entry)) p ⌝ }
 {
     let left = s.len() - p;
     if k == 1 {
@@ -109,7 +109,7 @@ fn read_create(s: &[u8], k: u8, p: usize) -> CallRead
 fn read_object(s: &[u8], k: u8, p: usize) -> CallRead
     requires { ⌜ (6 ≤ k) × (k ≤ 8) ⌝ }
     requires { ⌜ p ≤ length (now s) ⌝ }
-    ensures { λ r. ⌜ r ≡ callOf k (now (s .entry)) p ⌝ }
+    ensures { λ r. ⌜ r ≡ scriptCall k (now (s .entry)) p ⌝ }
 {
     let left = s.len() - p;
     if left < 4 {
@@ -133,7 +133,7 @@ fn read_object(s: &[u8], k: u8, p: usize) -> CallRead
 fn read_setting(s: &[u8], k: u8, p: usize) -> CallRead
     requires { ⌜ (9 ≤ k) × (k ≤ 12) ⌝ }
     requires { ⌜ p ≤ length (now s) ⌝ }
-    ensures { λ r. ⌜ r ≡ callOf k (now (s .entry)) p ⌝ }
+    ensures { λ r. ⌜ r ≡ scriptCall k (now (s .entry)) p ⌝ }
 {
     let left = s.len() - p;
     if left < 8 {
@@ -205,7 +205,7 @@ fn read_area(s: &[u8], p: usize) -> Area
 fn read_drawing(s: &[u8], k: u8, p: usize) -> CallRead
     requires { ⌜ (13 ≤ k) × (14 < k → k ≡ 18) ⌝ }
     requires { ⌜ p ≤ length (now s) ⌝ }
-    ensures { λ r. ⌜ r ≡ callOf k (now (s .entry)) p ⌝ }
+    ensures { λ r. ⌜ r ≡ scriptCall k (now (s .entry)) p ⌝ }
 {
     let left = s.len() - p;
     if left < 20 {
@@ -250,7 +250,7 @@ fn read_drawing(s: &[u8], k: u8, p: usize) -> CallRead
 // The text whose arguments start at p. Its units stand behind them.
 fn read_text(s: &[u8], p: usize) -> CallRead
     requires { ⌜ p ≤ length (now s) ⌝ }
-    ensures { λ r. ⌜ r ≡ callOf 15 (now (s .entry)) p ⌝ }
+    ensures { λ r. ⌜ r ≡ scriptCall 15 (now (s .entry)) p ⌝ }
 {
     let left = s.len() - p;
     if left < 16 {
@@ -284,7 +284,7 @@ pub fn read_units(s: &[u8], p: usize, n: usize, units: &mut [u16])
 fn read_panel(s: &[u8], k: u8, p: usize) -> CallRead
     requires { ⌜ (16 ≤ k) × (k ≤ 17) ⌝ }
     requires { ⌜ p ≤ length (now s) ⌝ }
-    ensures { λ r. ⌜ r ≡ callOf k (now (s .entry)) p ⌝ }
+    ensures { λ r. ⌜ r ≡ scriptCall k (now (s .entry)) p ⌝ }
 {
     let left = s.len() - p;
     if left < 4 {
@@ -313,7 +313,7 @@ fn read_panel(s: &[u8], k: u8, p: usize) -> CallRead
 // The call of byte k, whose arguments start at p.
 fn read_arguments(s: &[u8], k: u8, p: usize) -> CallRead
     requires { ⌜ p ≤ length (now s) ⌝ }
-    ensures { λ r. ⌜ r ≡ callOf k (now (s .entry)) p ⌝ }
+    ensures { λ r. ⌜ r ≡ scriptCall k (now (s .entry)) p ⌝ }
 {
     if k < 1 {
         return CallRead::Bad;

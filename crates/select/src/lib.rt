@@ -58,19 +58,19 @@ pub fn selected(d: Dc, kind: Kind) -> u32
 }
 
 // Selects an object into a DC. The handle selected before; 0 if nothing is selected.
-pub fn select_into(l: &mut [u32], dc: u32, object: u32) -> Answer
-    requires { ⌜ Lent (now l) (view (now l) .«panel_len») (view (now l) .«store_len») ⌝ }
-    ensures { λ r. ⌜ ((ms : Memories) → Followed (selectInto (view (now (l .entry))) dc object) (now (l .entry)) ms (partsOf r) (now (l .exit)) ms) ⌝ }
+pub fn select_into(numbers: &mut [u32], dc: u32, object: u32) -> Answer
+    requires { ⌜ Lent (now numbers) (view (now numbers) .«panel_len») (view (now numbers) .«store_len») ⌝ }
+    ensures { λ r. ⌜ ((ms : Memories) → Followed (selectInto (view (now (numbers .entry))) dc object) (now (numbers .entry)) ms (partsOf r) (now (numbers .exit)) ms) ⌝ }
 {
-    let k = lookup::find_kind(l, object);
+    let k = lookup::find_kind(numbers, object);
     if let Kind::Other = k {
         return Answer::Handle(0);
     }
-    match lookup::find_dc(l, dc) {
+    match lookup::find_dc(numbers, dc) {
         DcFound::Is(p, d) => {
             let old = selected(d, k);
             let after = select_in(d, object, k);
-            lookup::store_dc(l, dc, p, after);
+            lookup::update_dc(numbers, dc, p, after);
             Answer::Handle(old)
         }
         DcFound::Absent => Answer::Handle(0),

@@ -6,13 +6,13 @@ use Rattle.gdi.specs.declared.DcFound.the-variants.{Is, Absent}
 use Rattle.gdi.specs.declared.GdiState.{GdiState}
 use Rattle.gdi.specs.declared.Spot.{Spot}
 use Rattle.gdi.specs.Lookup.{dcOf}
-use Rattle.gdi.specs.Updates.{storeOf}
+use Rattle.gdi.specs.Updates.{withDc}
 use Rattle.plan.specs.Answer.{Parts}
-use Rattle.plan.specs.Plan.{told, refuse}
+use Rattle.plan.specs.Plan.{recordOnly, refuse}
 use Rattle.plan.specs.Settings.{setting}
 
 module _ (old : Dc → Parts) (new : Dc → Dc) (b : GdiState) (dc : ℕ) where
-  pub set-in-dc : {p : Spot} {d d′ : Dc} {a : Parts} → dcOf b dc ≡ Is p d → a ≡ old d → d′ ≡ new d → setting old new b dc ≡ told (storeOf b dc p d′) a
+  pub set-in-dc : {p : Spot} {d d′ : Dc} {a : Parts} → dcOf b dc ≡ Is p d → a ≡ old d → d′ ≡ new d → setting old new b dc ≡ recordOnly (withDc b dc p d′) a
   unfolding setting
   set-in-dc e o n = rw (e, n, o)
 

@@ -12,64 +12,64 @@ use plan::Answer;
 // The refusal of a handle that is no DC's.
 pub const NO_DC: u32 = 1;
 
-pub fn set_text_color(l: &mut [u32], dc: u32, color: Colorref) -> Answer
-    requires { ⌜ Lent (now l) (view (now l) .«panel_len») (view (now l) .«store_len») ⌝ }
-    ensures { λ r. ⌜ ((ms : Memories) → Followed (setTextColor (view (now (l .entry))) dc color) (now (l .entry)) ms (partsOf r) (now (l .exit)) ms) ⌝ }
+pub fn set_text_color(numbers: &mut [u32], dc: u32, color: Colorref) -> Answer
+    requires { ⌜ Lent (now numbers) (view (now numbers) .«panel_len») (view (now numbers) .«store_len») ⌝ }
+    ensures { λ r. ⌜ ((ms : Memories) → Followed (setTextColor (view (now (numbers .entry))) dc color) (now (numbers .entry)) ms (partsOf r) (now (numbers .exit)) ms) ⌝ }
 {
-    match lookup::find_dc(l, dc) {
+    match lookup::find_dc(numbers, dc) {
         DcFound::Is(p, d) => {
             let set = dc_mut::with_text_color(d, color);
             let after = set.dc;
             let old = set.old;
-            lookup::store_dc(l, dc, p, after);
+            lookup::update_dc(numbers, dc, p, after);
             Answer::OldColor(old)
         }
         DcFound::Absent => Answer::Refused(NO_DC),
     }
 }
 
-pub fn set_text_align(l: &mut [u32], dc: u32, align: u32) -> Answer
-    requires { ⌜ Lent (now l) (view (now l) .«panel_len») (view (now l) .«store_len») ⌝ }
-    ensures { λ r. ⌜ ((ms : Memories) → Followed (setTextAlign (view (now (l .entry))) dc align) (now (l .entry)) ms (partsOf r) (now (l .exit)) ms) ⌝ }
+pub fn set_text_align(numbers: &mut [u32], dc: u32, align: u32) -> Answer
+    requires { ⌜ Lent (now numbers) (view (now numbers) .«panel_len») (view (now numbers) .«store_len») ⌝ }
+    ensures { λ r. ⌜ ((ms : Memories) → Followed (setTextAlign (view (now (numbers .entry))) dc align) (now (numbers .entry)) ms (partsOf r) (now (numbers .exit)) ms) ⌝ }
 {
-    match lookup::find_dc(l, dc) {
+    match lookup::find_dc(numbers, dc) {
         DcFound::Is(p, d) => {
             let set = dc_mut::with_text_align(d, align);
             let after = set.dc;
             let old = set.old;
-            lookup::store_dc(l, dc, p, after);
+            lookup::update_dc(numbers, dc, p, after);
             Answer::OldAlign(old)
         }
         DcFound::Absent => Answer::Refused(NO_DC),
     }
 }
 
-pub fn set_bk_color(l: &mut [u32], dc: u32, color: Colorref) -> Answer
-    requires { ⌜ Lent (now l) (view (now l) .«panel_len») (view (now l) .«store_len») ⌝ }
-    ensures { λ r. ⌜ ((ms : Memories) → Followed (setBkColor (view (now (l .entry))) dc color) (now (l .entry)) ms (partsOf r) (now (l .exit)) ms) ⌝ }
+pub fn set_bk_color(numbers: &mut [u32], dc: u32, color: Colorref) -> Answer
+    requires { ⌜ Lent (now numbers) (view (now numbers) .«panel_len») (view (now numbers) .«store_len») ⌝ }
+    ensures { λ r. ⌜ ((ms : Memories) → Followed (setBkColor (view (now (numbers .entry))) dc color) (now (numbers .entry)) ms (partsOf r) (now (numbers .exit)) ms) ⌝ }
 {
-    match lookup::find_dc(l, dc) {
+    match lookup::find_dc(numbers, dc) {
         DcFound::Is(p, d) => {
             let set = dc_mut::with_bk_color(d, color);
             let after = set.dc;
             let old = set.old;
-            lookup::store_dc(l, dc, p, after);
+            lookup::update_dc(numbers, dc, p, after);
             Answer::OldColor(old)
         }
         DcFound::Absent => Answer::Refused(NO_DC),
     }
 }
 
-pub fn set_bk_mode(l: &mut [u32], dc: u32, transparent: bool) -> Answer
-    requires { ⌜ Lent (now l) (view (now l) .«panel_len») (view (now l) .«store_len») ⌝ }
-    ensures { λ r. ⌜ ((ms : Memories) → Followed (setBkMode (view (now (l .entry))) dc transparent) (now (l .entry)) ms (partsOf r) (now (l .exit)) ms) ⌝ }
+pub fn set_bk_mode(numbers: &mut [u32], dc: u32, transparent: bool) -> Answer
+    requires { ⌜ Lent (now numbers) (view (now numbers) .«panel_len») (view (now numbers) .«store_len») ⌝ }
+    ensures { λ r. ⌜ ((ms : Memories) → Followed (setBkMode (view (now (numbers .entry))) dc transparent) (now (numbers .entry)) ms (partsOf r) (now (numbers .exit)) ms) ⌝ }
 {
-    match lookup::find_dc(l, dc) {
+    match lookup::find_dc(numbers, dc) {
         DcFound::Is(p, d) => {
             let set = dc_mut::with_bk_mode(d, transparent);
             let after = set.dc;
             let old = set.old;
-            lookup::store_dc(l, dc, p, after);
+            lookup::update_dc(numbers, dc, p, after);
             Answer::OldMode(old)
         }
         DcFound::Absent => Answer::Refused(NO_DC),

@@ -6,15 +6,15 @@ use numbers::WIDTH;
 use ready::OTHER_LENGTH;
 
 // Writes R, G, B, 255 of each of the panel's pixels. The refusal's number, 0 if the snapshot was made.
-pub fn snapshot_rgba8888_into(l: &[u32], panel: &[u8], out: &mut [u8]) -> u32
-    ensures { λ r. ⌜ Snapped rgba8888 (now (l .entry)) (now (panel .entry)) (now (out .entry)) r (now (out .exit)) ⌝ }
+pub fn snapshot_rgba8888_into(numbers: &[u32], panel: &[u8], out: &mut [u8]) -> u32
+    ensures { λ r. ⌜ Snapped rgba8888 (now (numbers .entry)) (now (panel .entry)) (now (out .entry)) r (now (out .exit)) ⌝ }
 {
-    let number = ready::panel_refusal(l, panel.len());
+    let number = ready::panel_refusal(numbers, panel.len());
     if number != 0 {
         return number;
     }
-    let width = l[WIDTH];
-    let height = l[HEIGHT];
+    let width = numbers[WIDTH];
+    let height = numbers[HEIGHT];
     if out.len() != samples::rgba_len(width, height) {
         return OTHER_LENGTH;
     }
@@ -23,15 +23,15 @@ pub fn snapshot_rgba8888_into(l: &[u32], panel: &[u8], out: &mut [u8]) -> u32
 }
 
 // Writes the panel as a P6 picture. The refusal's number, 0 if the snapshot was made.
-pub fn snapshot_ppm(l: &[u32], panel: &[u8], out: &mut [u8]) -> u32
-    ensures { λ r. ⌜ Snapped ppm (now (l .entry)) (now (panel .entry)) (now (out .entry)) r (now (out .exit)) ⌝ }
+pub fn snapshot_ppm(numbers: &[u32], panel: &[u8], out: &mut [u8]) -> u32
+    ensures { λ r. ⌜ Snapped ppm (now (numbers .entry)) (now (panel .entry)) (now (out .entry)) r (now (out .exit)) ⌝ }
 {
-    let number = ready::panel_refusal(l, panel.len());
+    let number = ready::panel_refusal(numbers, panel.len());
     if number != 0 {
         return number;
     }
-    let width = l[WIDTH];
-    let height = l[HEIGHT];
+    let width = numbers[WIDTH];
+    let height = numbers[HEIGHT];
     if out.len() != ppm_len(width, height) {
         return OTHER_LENGTH;
     }

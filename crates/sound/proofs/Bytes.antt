@@ -5,8 +5,8 @@ use Prim.Native.Nat.{ℕ, _+_, _*_, _<_, _≤_}
 use native.Mathlib.Nat.{mul-le-mul}
 use native.Mathlib.Omega.{arith}
 use lib.Dec.{eqb}
-use Rattle.laws.proofs.Test.{both, each}
-use Rattle.laws.proofs.Sum.{sum-none, sum-more}
+use Rattle.arithmetic.proofs.Test.{both, each}
+use Rattle.arithmetic.proofs.Sum.{sum-none, sum-more}
 use Rattle.surface.specs.Refusal.{side}
 use Rattle.surface.proofs.Accepted.{side-range}
 use Rattle.gdi.specs.declared.Slot.{Slot}

@@ -7,7 +7,7 @@ use native.Mathlib.Decide.{decLt}
 use native.Mathlib.Omega.{arith}
 use lib.Dec.{eqb}
 use borrow.Author.Tests.{ne-eqb}
-use Rattle.laws.proofs.Test.{all-more, all-of}
+use Rattle.arithmetic.proofs.Test.{all-more, all-of}
 use Rattle.gdi.specs.declared.Slot.{Slot}
 use Rattle.gdi.specs.Lookup.{handleAt}
 use Rattle.sound.specs.Sound.{absent, distinct}

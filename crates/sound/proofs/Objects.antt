@@ -4,14 +4,14 @@ use mathlib.Core.List.{List}
 use mathlib.Core.Path.{_≡_, refl, sym, _∙_, ap}
 use Prim.Native.Nat.{ℕ, _+_, _*_, _≤_}
 use lib.Dec.{eqb}
-use Rattle.laws.proofs.Test.{both}
+use Rattle.arithmetic.proofs.Test.{both}
 use Rattle.words.specs.Parts.{part}
 use Rattle.surface.specs.Refusal.{side}
 use Rattle.gdi.specs.declared.DcSurface.the-variants.{Screen, Memory}
 use Rattle.gdi.specs.declared.GdiObject.{GdiObject}
 use Rattle.gdi.specs.Record.{bytesOf}
 use Rattle.numbers.specs.Layout.{objectSize, kindPlace, objectPlace}
-use Rattle.numbers.specs.Block.{at, dcOf, objectOf}
+use Rattle.numbers.specs.Block.{at, dcFields, objectOf}
 use Rattle.numbers.proofs.Seen.{bitmapHeightPlace, part-first, part-second, object-dc, object-bitmap, by-kind}
 use Rattle.sound.specs.Sound.{isMemory, objectFits}
 use Rattle.sound.proofs.Bytes.{area}
@@ -26,7 +26,7 @@ memory-flag false = refl
 
 module _ (l : List ℕ) (p : ℕ) where
   pub fits-dc : at l (p + kindPlace) ≡ 0 → eqb (at l (p + objectPlace)) 1 ≡ objectFits (objectFrom l p)
-  unfolding dcOf
+  unfolding dcFields
   fits-dc e = rw (object-dc (at l (p + kindPlace)) (part l (p + objectPlace) objectSize) e, part-first l (p + objectPlace)) (memory-flag (eqb (at l (p + objectPlace)) 1))
 
   pub fits-bitmap : at l (p + kindPlace) ≡ 1 → (side (at l (p + objectPlace)) && side (at l (p + bitmapHeightPlace))) ≡ objectFits (objectFrom l p)

@@ -7,8 +7,8 @@ use native.Mathlib.Omega.{arith}
 use lib.Dec.{eqb, ltb}
 use lib.ListN.{length}
 use borrow.Author.Tests.{ne-eqb, lt-leb, ltb-true}
-use Rattle.laws.specs.Test.{allBelow}
-use Rattle.laws.proofs.Test.{both, and-false, all-more, all-fails, not-left}
+use Rattle.arithmetic.specs.Test.{allBelow}
+use Rattle.arithmetic.proofs.Test.{both, and-false, all-more, all-fails, not-left}
 use Rattle.words.specs.Parts.{part}
 use Rattle.gdi.specs.Record.{bytesOf}
 use Rattle.gdi.specs.Stock.{isStock}

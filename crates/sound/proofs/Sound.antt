@@ -8,8 +8,8 @@ use native.Mathlib.Omega.{arith}
 use lib.Dec.{eqb, leb}
 use lib.ListN.{length, List·getD-eq-default}
 use borrow.Author.Tests.{le-leb, leb-true, eqb-false, not-true}
-use Rattle.laws.proofs.Test.{both, each}
-use Rattle.laws.proofs.Sum.{sum-le}
+use Rattle.arithmetic.proofs.Test.{both, each}
+use Rattle.arithmetic.proofs.Sum.{sum-le}
 use Rattle.surface.specs.Refusal.{side}
 use Rattle.gdi.specs.declared.Slot.{Slot}
 use Rattle.gdi.specs.declared.GdiState.{GdiState}

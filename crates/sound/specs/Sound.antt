@@ -1,10 +1,10 @@
--- When a bench record is sound.
+-- When a device record is sound.
 use mathlib.Core.Bool.{Bool, true, false, not, _&&_}
 use mathlib.Core.List.{List}
 use Prim.Native.Nat.{ℕ, _+_}
 use lib.Dec.{eqb, leb}
-use Rattle.laws.specs.Test.{allBelow}
-use Rattle.laws.specs.Sum.{sumBelow}
+use Rattle.arithmetic.specs.Test.{allBelow}
+use Rattle.arithmetic.specs.Sum.{sumBelow}
 use Rattle.surface.specs.Refusal.{side}
 use Rattle.gdi.specs.declared.DcSurface.{DcSurface}
 use Rattle.gdi.specs.declared.DcSurface.the-variants.{Screen, Memory}

@@ -44,15 +44,15 @@ pub fn object_bytes(object: GdiObject) -> usize
 }
 
 // Whether the object whose slot stands from number p on is what a created object has to be.
-fn object_fits(l: &[u32], p: usize) -> bool
-    requires { ⌜ p + slotSize ≤ length (now l) ⌝ }
-    ensures { λ r. ⌜ r ≡ objectFits (objectOf (at (now (l .entry)) (p + kindPlace)) (part (now (l .entry)) (p + objectPlace) objectSize)) ⌝ }
+fn object_fits(numbers: &[u32], p: usize) -> bool
+    requires { ⌜ p + slotSize ≤ length (now numbers) ⌝ }
+    ensures { λ r. ⌜ r ≡ objectFits (objectOf (at (now (numbers .entry)) (p + kindPlace)) (part (now (numbers .entry)) (p + objectPlace) objectSize)) ⌝ }
 {
-    match l[p + KIND] {
-        0 => l[p + OBJECT] == 1,
+    match numbers[p + KIND] {
+        0 => numbers[p + OBJECT] == 1,
         1 => {
-            if surface::is_side(l[p + OBJECT]) {
-                surface::is_side(l[p + BITMAP_HEIGHT])
+            if surface::is_side(numbers[p + OBJECT]) {
+                surface::is_side(numbers[p + BITMAP_HEIGHT])
             } else {
                 false
             }
@@ -62,16 +62,16 @@ fn object_fits(l: &[u32], p: usize) -> bool
 }
 
 // The bytes of the pixels of the object whose slot stands from number p on.
-pub fn bytes_of(l: &[u32], p: usize) -> usize
-    requires { ⌜ p + slotSize ≤ length (now l) ⌝ }
-    requires { ⌜ objectFits (objectOf (at (now l) (p + kindPlace)) (part (now l) (p + objectPlace) objectSize)) ≡ true ⌝ }
-    ensures { λ r. ⌜ r ≡ bytesOf (objectOf (at (now (l .entry)) (p + kindPlace)) (part (now (l .entry)) (p + objectPlace) objectSize)) ⌝ }
+pub fn bytes_of(numbers: &[u32], p: usize) -> usize
+    requires { ⌜ p + slotSize ≤ length (now numbers) ⌝ }
+    requires { ⌜ objectFits (objectOf (at (now numbers) (p + kindPlace)) (part (now numbers) (p + objectPlace) objectSize)) ≡ true ⌝ }
+    ensures { λ r. ⌜ r ≡ bytesOf (objectOf (at (now (numbers .entry)) (p + kindPlace)) (part (now (numbers .entry)) (p + objectPlace) objectSize)) ⌝ }
 {
-    if l[p + KIND] != 1 {
+    if numbers[p + KIND] != 1 {
         return 0;
     }
-    let w = l[p + OBJECT] as usize;
-    let h = l[p + BITMAP_HEIGHT] as usize;
+    let w = numbers[p + OBJECT] as usize;
+    let h = numbers[p + BITMAP_HEIGHT] as usize;
     2 * (w * h)
 }
 
@@ -118,12 +118,12 @@ fn goes_on(ascending: bool, last: u32, h: u32) -> bool
 }
 
 // Looks at every slot.
-pub fn scan_slots(l: &[u32]) -> Scan
-    requires { ⌜ length (now l) ≡ recordSize ⌝ }
-    requires { ⌜ at (now l) countPlace ≤ 256 ⌝ }
-    ensures { λ r. ⌜ Scanned (now (l .entry)) r ⌝ }
+pub fn scan_slots(numbers: &[u32]) -> Scan
+    requires { ⌜ length (now numbers) ≡ recordSize ⌝ }
+    requires { ⌜ at (now numbers) countPlace ≤ 256 ⌝ }
+    ensures { λ r. ⌜ Scanned (now (numbers .entry)) r ⌝ }
 {
-    let n = l[COUNT] as usize;
+    let n = numbers[COUNT] as usize;
     let mut i: usize = 0;
     let mut end: usize = 2;
     let mut last: u32 = 0;
@@ -131,35 +131,35 @@ pub fn scan_slots(l: &[u32]) -> Scan
     while i < n {
         let p = SLOTS + SLOT * i;
         let e = p + SLOT;
-        if !well_formed::is_slot(&l[p..e]) {
+        if !well_formed::is_slot(&numbers[p..e]) {
             return unfit();
         }
-        if !handle_fits(l[p]) {
+        if !handle_fits(numbers[p]) {
             return unfit();
         }
-        if !object_fits(l, p) {
+        if !object_fits(numbers, p) {
             return unfit();
         }
-        end += bytes_of(l, p);
-        ascending = goes_on(ascending, last, l[p]);
-        last = l[p];
+        end += bytes_of(numbers, p);
+        ascending = goes_on(ascending, last, numbers[p]);
+        last = numbers[p];
         i += 1;
     }
     Scan { end, ascending }
 }
 
 // Where the pixels of object n begin in the store: behind those of the stock bitmap and of the objects before it.
-pub fn start_of(l: &[u32], n: usize) -> usize
-    requires { ⌜ isRecord (now l) ≡ true ⌝ }
-    requires { ⌜ slotsFit (view (now l)) ≡ true ⌝ }
-    requires { ⌜ n ≤ at (now l) countPlace ⌝ }
-    ensures { λ r. ⌜ r ≡ startOf (view (now (l .entry))) n ⌝ }
+pub fn start_of(numbers: &[u32], n: usize) -> usize
+    requires { ⌜ isRecord (now numbers) ≡ true ⌝ }
+    requires { ⌜ slotsFit (view (now numbers)) ≡ true ⌝ }
+    requires { ⌜ n ≤ at (now numbers) countPlace ⌝ }
+    ensures { λ r. ⌜ r ≡ startOf (view (now (numbers .entry))) n ⌝ }
     ensures { λ r. ⌜ r ≤ 2 + 33554432 * 256 ⌝ }
 {
     let mut i: usize = 0;
     let mut end: usize = 2;
     while i < n {
-        end += bytes_of(l, SLOTS + SLOT * i);
+        end += bytes_of(numbers, SLOTS + SLOT * i);
         i += 1;
     }
     end

@@ -5,7 +5,7 @@ use Prim.Native.Nat.{ℕ, _*_, _≤_, _<_}
 use native.Mathlib.Omega.{arith}
 use lib.Dec.{leb, eqb}
 use borrow.Author.Tests.{leb-true, eqb-true, eq-eqb, ne-eqb}
-use Rattle.laws.proofs.Test.{both}
+use Rattle.arithmetic.proofs.Test.{both}
 use Rattle.surface.specs.Refusal.{side, sourceSide, refusalFor, refusal, refusalFrom}
 
 -- A surface in order: sides in their limits, and bytes, of which there are len, as many as they say.

@@ -5,9 +5,9 @@ use Prim.Native.Nat.{ℕ, _+_, _*_, _/_, _%_, _-_, _≤_, _<_}
 use native.Mathlib.Nat.{div-add-mod', mod-lt, mul-le-mul-right, div-lt-iff-lt-mul}
 use native.Mathlib.Decide.{decLt}
 use native.Mathlib.Omega.{arith}
-use Rattle.laws.specs.Interval.{between}
-use Rattle.laws.proofs.Interval.{between-yes, between-no, between-cong, bounds}
-use Rattle.laws.proofs.Test.{and-false}
+use Rattle.arithmetic.specs.Interval.{between}
+use Rattle.arithmetic.proofs.Interval.{between-yes, between-no, between-cong, bounds}
+use Rattle.arithmetic.proofs.Test.{and-false}
 use Rattle.surface.specs.Region.{wordsOf}
 
 -- columns x0 .. x1 and rows y0 .. y1

@@ -6,11 +6,11 @@ use Prim.Native.Nat.{ℕ, _+_, _-_, _*_, _≤_, _<_}
 use native.Mathlib.Omega.{arith}
 use lib.IntN.{ℤ, pos, _+ℤ_}
 use lib.ListN.{getD}
-use Rattle.laws.specs.Integer.{positive}
-use Rattle.laws.specs.Inner.{negative}
-use Rattle.laws.proofs.Integer.{sum, one-part}
-use Rattle.laws.proofs.Interval.{between-no}
-use Rattle.laws.proofs.Test.{any-end, any-more, any-none, not-left, not-right}
+use Rattle.arithmetic.specs.Integer.{positive}
+use Rattle.arithmetic.specs.Inner.{negative}
+use Rattle.arithmetic.proofs.Integer.{sum, one-part}
+use Rattle.arithmetic.proofs.Interval.{between-no}
+use Rattle.arithmetic.proofs.Test.{any-end, any-more, any-none, not-left, not-right}
 use Rattle.clip.specs.Clip.{covers}
 use Rattle.clip.specs.declared.Span.{Span}
 use Rattle.clip.proofs.Clip.{covers-parts}

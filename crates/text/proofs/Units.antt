@@ -8,7 +8,7 @@ use lib.Dec.{leb}
 use lib.ListN.{getD, length, drop}
 use lib.Seq.{drop-cons}
 use borrow.Author.Tests.{ne-eqb, leb-true}
-use Rattle.laws.proofs.Test.{both}
+use Rattle.arithmetic.proofs.Test.{both}
 use Rattle.text.specs.Ink.{printable, unitCount}
 
 -- the units before unit 0 or the end, from unit i on

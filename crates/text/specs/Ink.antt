@@ -5,7 +5,7 @@ use Prim.Native.Nat.{ℕ, suc, _-_, _*_}
 use lib.Dec.{leb, eqb}
 use lib.IntN.{ℤ, pos, _+ℤ_}
 use lib.ListN.{getD}
-use Rattle.laws.specs.Test.{anyBelow}
+use Rattle.arithmetic.specs.Test.{anyBelow}
 use Rattle.font.specs.Font.{inked}
 use Rattle.surface.specs.Region.{box}
 use Rattle.glyph.specs.Past.{past}

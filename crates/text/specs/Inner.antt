@@ -2,8 +2,8 @@
 -- What the search for the units on a surface ensures.
 use Prim.Native.Nat.{ℕ, _+_, _*_, _≤_, _<_}
 use lib.IntN.{ℤ}
-use Rattle.laws.specs.Integer.{positive}
-use Rattle.laws.specs.Inner.{negative}
+use Rattle.arithmetic.specs.Integer.{positive}
+use Rattle.arithmetic.specs.Inner.{negative}
 use Rattle.clip.specs.declared.Span.{Span}
 
 -- each unit before s ends left of the surface, and each after it starts right of the surface

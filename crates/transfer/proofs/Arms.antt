@@ -16,7 +16,7 @@ use Rattle.plan.specs.declared.Area.{Area}
 use Rattle.plan.specs.declared.Point.{Point}
 use Rattle.paint.specs.Memories.{Memories, memories, memoryOf, withMemory, over}
 use Rattle.plan.specs.Drawing.{blittedAt}
-use Rattle.transfer.specs.Inner.{Side, Beside, blitPart, transferred}
+use Rattle.transfer.specs.Inner.{SameOrApart, PlacesApart, blitPart, transferred}
 use Rattle.transfer.proofs.Numbers.{numbers}
 use Rattle.transfer.proofs.Drawn.{no-source, part-back}
 
@@ -25,10 +25,10 @@ module _ {at src : Place} {m r : Memory} {p w h q x y : ℕ} (e : at ≡ At m p 
       → Inside (lengthOf n k u) p w h × Inside (lengthOf n k v) q x y
   both-inside n k i u v g l = (taken-apart n k u (i .0) e g, taken-apart n k v (i .1) f l)
 
-  pub side-panel : Beside at src → m ≡ Panel → r ≡ Panel → Side p w h q x y
+  pub side-panel : PlacesApart at src → m ≡ Panel → r ≡ Panel → SameOrApart p w h q x y
   side-panel b g l = rw (e, f, g, l) at b
 
-  pub side-store : Beside at src → m ≡ Store → r ≡ Store → Side p w h q x y
+  pub side-store : PlacesApart at src → m ≡ Store → r ≡ Store → SameOrApart p w h q x y
   side-store b g l = rw (e, f, g, l) at b
 
 -- the blit was made as defined, and the mark told

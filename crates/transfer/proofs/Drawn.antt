@@ -12,17 +12,17 @@ use lib.Seq.{drop-drop}
 use lib.Signed.{leZ}
 use borrow.Author.Tests.{le-ltb}
 use borrow.Rule.Slice.PartMut.{putMid}
-use Rattle.laws.specs.Interval.{between}
-use Rattle.laws.specs.Integer.{positive}
-use Rattle.laws.proofs.Interval.{bounds}
-use Rattle.laws.proofs.Test.{both, not-left, not-right}
+use Rattle.arithmetic.specs.Interval.{between}
+use Rattle.arithmetic.specs.Integer.{positive}
+use Rattle.arithmetic.proofs.Interval.{bounds}
+use Rattle.arithmetic.proofs.Test.{both, not-left, not-right}
 use Rattle.words.specs.Words.{word}
 use Rattle.words.specs.Parts.{part, withPart}
 use Rattle.words.proofs.Painted.{painted-same, painted-none}
 use Rattle.words.proofs.Parts.{length-part, word-part, part-painted}
 use Rattle.rop3.specs.Rop3.{applied}
 use Rattle.clip.specs.Clip.{covers}
-use Rattle.clip_blit.specs.Blit.{sourceAt, inside, drawn, drawnAt}
+use Rattle.clip_blit.specs.Blit.{sourceAt, inside, drawnAlong, drawnAt}
 use Rattle.clip_blit.proofs.Blit.{drawn-source}
 use Rattle.surface.specs.Region.{wordsOf}
 use Rattle.blit.specs.Blit.{Blit, region, marks, sourceWord, blitFrom}
@@ -32,7 +32,7 @@ use Rattle.gdi.specs.Record.{size}
 use Rattle.place.specs.Place.{Inside}
 use Rattle.plan.specs.declared.Area.{Area}
 use Rattle.plan.specs.declared.Point.{Point}
-use Rattle.transfer.specs.Inner.{Side, blitPart}
+use Rattle.transfer.specs.Inner.{SameOrApart, blitPart}
 use Rattle.transfer.proofs.Numbers.{numbers}
 
 module _ (W H : ℕ) (a : Area) (f : Point) (SW SH t c : ℕ) where
@@ -42,7 +42,7 @@ module _ (W H : ℕ) (a : Area) (f : Point) (SW SH t c : ℕ) where
   -- the word that is taken for a pixel of the blit is one of the source
   source-lt : (x y : ℕ) → region B x y ≡ true → sourceWord B x y < SW * SH
   source-lt x y e =
-      let d = both (drawn (a .x) (f .x) (a .w) SW x) (drawn (a .y) (f .y) (a .h) SH y) e in
+      let d = both (drawnAlong (a .x) (f .x) (a .w) SW x) (drawnAlong (a .y) (f .y) (a .h) SH y) e in
       omega (
         arith,
         drawn-source (a .x) (f .x) (a .w) SW x (d .0),
@@ -108,7 +108,7 @@ module _ (W H : ℕ) (a : Area) (f : Point) (SW SH t c : ℕ) where
         painted-same Region Region Old (λ i. New (i - at)) m (λ i lt. refl) (λ i lt e. same-word i e)
         ∙ sym (part-painted (wordsOf W (region B)) New m at (W * H) room)
 
-  module _ (m : List ℕ) (p q : ℕ) (to : Inside (length m) p W H) (from : Inside (length m) q SW SH) (side : Side p W H q SW SH) where
+  module _ (m : List ℕ) (p q : ℕ) (to : Inside (length m) p W H) (from : Inside (length m) q SW SH) (side : SameOrApart p W H q SW SH) where
     -- both surfaces by their words
     pub placed : {b : Blit} → b ≡ B → Placed (length m) (p / 2) (q / 2) b
     placed g =
@@ -143,7 +143,7 @@ pub no-source : (a : Area) (f : Point) (t c W : ℕ) (m : List ℕ) → m ≡ bl
 no-source a f t c W m =
     painted-none (wordsOf W (drawnAt (a .x) (a .y) (f .x) (f .y) (a .w) (a .h) 0 0))
     (λ i. applied t c (word [] (positive (sourceAt (a .x) (f .x) (i % W)) + positive (sourceAt (a .y) (f .y) (i / W)) * 0)) (word m i)) m
-    (λ i lt. not-left (drawn (a .y) (f .y) (a .h) 0 (i / W)) (not-right (covers (a .x) (a .w) (i % W)) (none-inside (sourceAt (a .x) (f .x) (i % W)))))
+    (λ i lt. not-left (drawnAlong (a .y) (f .y) (a .h) 0 (i / W)) (not-right (covers (a .x) (a .w) (i % W)) (none-inside (sourceAt (a .x) (f .x) (i % W)))))
 
 -- a part put back as it was
 pub part-back : (m : List ℕ) (p n : ℕ) → withPart m p n (part m p n) ≡ m

@@ -1,4 +1,4 @@
 pub mod Numbers
 pub mod Drawn
 pub mod Arms
-pub mod Besides
+pub mod PlacesApart

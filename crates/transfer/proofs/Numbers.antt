@@ -2,7 +2,7 @@
 use mathlib.Core.Path.{_≡_}
 use Prim.Native.Nat.{ℕ, _<_, _^_}
 use lib.Signed.{mag}
-use Rattle.laws.proofs.Machine.{held32, stored32}
+use Rattle.arithmetic.proofs.Machine.{held32, stored32}
 use Rattle.blit.specs.Blit.{Blit, blitOf}
 use Rattle.plan.specs.declared.Area.{Area}
 use Rattle.plan.specs.declared.Point.{Point}

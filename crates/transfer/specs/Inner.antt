@@ -4,7 +4,7 @@ use mathlib.Core.List.{List}
 use mathlib.Core.Logic.{_⊎_}
 use mathlib.Core.Path.{_≡_}
 use Prim.Native.Nat.{ℕ, _+_, _*_, _/_, _%_, _≤_}
-use Rattle.laws.specs.Integer.{positive}
+use Rattle.arithmetic.specs.Integer.{positive}
 use Rattle.words.specs.Words.{painted, word}
 use Rattle.rop3.specs.Rop3.{applied}
 use Rattle.clip_blit.specs.Blit.{sourceAt, drawnAt}
@@ -18,20 +18,20 @@ use Rattle.plan.specs.declared.Point.{Point}
 use Rattle.paint.specs.Memories.{Memories, widthOf, heightOf, pixelsAt, over}
 
 -- Two surfaces of one memory: each begins at a word, and they are one or have no byte in common.
-pub record Side (p w h q x y : ℕ) : Type 0 where
+pub record SameOrApart (p w h q x y : ℕ) : Type 0 where
   pub whole : 2 * (p / 2) ≡ p
   pub whole-source : 2 * (q / 2) ≡ q
   pub apart : ((p ≡ q) × ((w ≡ x) × (h ≡ y))) ⊎ ((p + size w h ≤ q) ⊎ (q + size x y ≤ p))
 
 -- two places, of which nothing is asked unless they lie in one memory
-abbrev pub Beside : Place → Place → Type 0
-Beside Nowhere v = Unit
-Beside (At Panel p w h) Nowhere = Unit
-Beside (At Panel p w h) (At Panel q x y) = Side p w h q x y
-Beside (At Panel p w h) (At Store q x y) = Unit
-Beside (At Store p w h) Nowhere = Unit
-Beside (At Store p w h) (At Panel q x y) = Unit
-Beside (At Store p w h) (At Store q x y) = Side p w h q x y
+abbrev pub PlacesApart : Place → Place → Type 0
+PlacesApart Nowhere v = Unit
+PlacesApart (At Panel p w h) Nowhere = Unit
+PlacesApart (At Panel p w h) (At Panel q x y) = SameOrApart p w h q x y
+PlacesApart (At Panel p w h) (At Store q x y) = Unit
+PlacesApart (At Store p w h) Nowhere = Unit
+PlacesApart (At Store p w h) (At Panel q x y) = Unit
+PlacesApart (At Store p w h) (At Store q x y) = SameOrApart p w h q x y
 
 -- the bytes m of a surface of that width after a blit from the bytes src of another, or from its own
 abbrev pub blitPart : Area → (from : Point) → (table pat : ℕ) → (src : List ℕ) → (src-w src-h width : ℕ) → (m : List ℕ) → List ℕ

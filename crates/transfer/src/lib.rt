@@ -8,7 +8,7 @@ ghost use Rattle.gdi.specs.Record.{size};
 ghost use Rattle.place.specs.Place.{Inside, Within};
 ghost use Rattle.paint.specs.Memories.{memories};
 ghost use Rattle.plan.specs.Drawing.{blittedAt};
-ghost use Rattle.transfer.specs.Inner.{Side, Beside, blitPart, transferred};
+ghost use Rattle.transfer.specs.Inner.{SameOrApart, PlacesApart, blitPart, transferred};
 use color::Rgb565;
 use place::Memory;
 use place::Place;
@@ -27,7 +27,7 @@ pub fn blit_at(
     pat: Rgb565,
 ) -> bool
     requires { ⌜ Within (length (now panel)) (length (now store)) at × Within (length (now panel)) (length (now store)) src ⌝ }
-    requires { ⌜ Beside at src ⌝ }
+    requires { ⌜ PlacesApart at src ⌝ }
     ensures { λ r. ⌜ r ≡ blittedAt at src area from ⌝ }
     ensures bytes { λ _. ⌜ memories (now (panel .exit)) (now (store .exit)) ≡ transferred at src area from (tableOf rop) (pat .0) (memories (now (panel .entry)) (now (store .entry))) ⌝ }
 {
@@ -153,7 +153,7 @@ fn blit_inside(
     pat: Rgb565,
 ) -> bool
     requires { ⌜ Inside (length (now mem)) p width height × Inside (length (now mem)) q «src_w» «src_h» ⌝ }
-    requires { ⌜ Side p width height q «src_w» «src_h» ⌝ }
+    requires { ⌜ SameOrApart p width height q «src_w» «src_h» ⌝ }
     ensures { λ r. ⌜ r ≡ marks (blitOf width height (area .x) (area .y) (from .x) (from .y) (area .w) (area .h) «src_w» «src_h») ⌝ }
     ensures bytes { λ _. ⌜ now (mem .exit) ≡ withPart (now (mem .entry)) p (size width height) (blitPart area from (tableOf rop) (pat .0) (part (now (mem .entry)) q (size «src_w» «src_h»)) «src_w» «src_h» width (part (now (mem .entry)) p (size width height))) ⌝ }
 {

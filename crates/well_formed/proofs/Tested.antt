@@ -9,8 +9,8 @@ use lib.Bits.{bitOr, or-zero-r, or-add-and, and-le-l}
 use lib.Dec.{eqb, leb}
 use lib.ListN.{length}
 use borrow.Author.Tests.{lt-leb, le-leb, leb-true, eq-eqb, eqb-true, ne-eqb}
-use Rattle.laws.specs.Test.{allBelow}
-use Rattle.laws.proofs.Test.{both, and-false, all-suc}
+use Rattle.arithmetic.specs.Test.{allBelow}
+use Rattle.arithmetic.proofs.Test.{both, and-false, all-suc}
 use Rattle.words.specs.Parts.{part}
 use Rattle.numbers.specs.Layout.{dcSize, objectSize, recordSize, stockDirtyPlace, countPlace, screenPlace, surfaceIn, presentIn, bitmapIn, bkTransparentIn, bitmapDirtyIn, bitmapSize}
 use Rattle.numbers.specs.Block.{at, isFlag, isDc, zerosFrom, isObject}

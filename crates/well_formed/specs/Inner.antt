@@ -5,7 +5,7 @@ use mathlib.Core.List.{List}
 use Prim.Native.Nat.{ℕ}
 use lib.Dec.{eqb, leb}
 use lib.ListN.{length}
-use Rattle.laws.specs.Test.{allBelow}
+use Rattle.arithmetic.specs.Test.{allBelow}
 use Rattle.words.specs.Parts.{part}
 use Rattle.numbers.specs.Layout.{dcSize, slotSize, recordSize, stockDirtyPlace, countPlace, screenPlace, slotPlace}
 use Rattle.numbers.specs.Block.{at, isFlag, isDc, isSlot}

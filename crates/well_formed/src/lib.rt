@@ -1,4 +1,4 @@
-// Which flat numbers are a bench record: the head and each slot.
+// Which flat numbers are a device record: the head and each slot.
 ghost use mathlib.Core.Path.{_≡_};
 ghost use Prim.Native.Nat.{_≤_};
 ghost use lib.ListN.{length};
@@ -25,78 +25,78 @@ use numbers::STOCK_DIRTY;
 use numbers::SURFACE;
 
 // Whether what stands before the slots is in order.
-pub fn is_head(l: &[u32]) -> bool
-    ensures { λ r. ⌜ r ≡ isHead (now (l .entry)) ⌝ }
+pub fn is_head(numbers: &[u32]) -> bool
+    ensures { λ r. ⌜ r ≡ isHead (now (numbers .entry)) ⌝ }
 {
-    if l.len() != RECORD {
+    if numbers.len() != RECORD {
         return false;
     }
-    if l[STOCK_DIRTY] > 1 {
+    if numbers[STOCK_DIRTY] > 1 {
         return false;
     }
-    if l[COUNT] > 256 {
+    if numbers[COUNT] > 256 {
         return false;
     }
-    is_dc(&l[SCREEN..SLOTS])
+    is_dc(&numbers[SCREEN..SLOTS])
 }
 
 // Whether the numbers are a slot.
-pub fn is_slot(l: &[u32]) -> bool
-    requires { ⌜ slotSize ≤ length (now l) ⌝ }
-    ensures { λ r. ⌜ r ≡ isSlot (now (l .entry)) ⌝ }
+pub fn is_slot(numbers: &[u32]) -> bool
+    requires { ⌜ slotSize ≤ length (now numbers) ⌝ }
+    ensures { λ r. ⌜ r ≡ isSlot (now (numbers .entry)) ⌝ }
 {
-    is_object(l[KIND], &l[OBJECT..SLOT])
+    is_object(numbers[KIND], &numbers[OBJECT..SLOT])
 }
 
 // Whether the numbers are an object of this kind.
-fn is_object(kind: u32, l: &[u32]) -> bool
-    requires { ⌜ objectSize ≤ length (now l) ⌝ }
-    ensures { λ r. ⌜ r ≡ isObject kind (now (l .entry)) ⌝ }
+fn is_object(kind: u32, numbers: &[u32]) -> bool
+    requires { ⌜ objectSize ≤ length (now numbers) ⌝ }
+    ensures { λ r. ⌜ r ≡ isObject kind (now (numbers .entry)) ⌝ }
 {
     match kind {
-        0 => is_dc(l),
+        0 => is_dc(numbers),
         1 => {
-            if l[DIRTY_IN] > 1 {
+            if numbers[DIRTY_IN] > 1 {
                 return false;
             }
-            zeros_from(l, BITMAP_SIZE)
+            zeros_from(numbers, BITMAP_SIZE)
         }
-        2 => zeros_from(l, BRUSH_SIZE),
-        3 => zeros_from(l, PEN_SIZE),
-        4 => zeros_from(l, FONT_SIZE),
+        2 => zeros_from(numbers, BRUSH_SIZE),
+        3 => zeros_from(numbers, PEN_SIZE),
+        4 => zeros_from(numbers, FONT_SIZE),
         _ => false,
     }
 }
 
-fn is_dc(l: &[u32]) -> bool
-    requires { ⌜ dcSize ≤ length (now l) ⌝ }
-    ensures { λ r. ⌜ r ≡ isDc (now (l .entry)) ⌝ }
+fn is_dc(numbers: &[u32]) -> bool
+    requires { ⌜ dcSize ≤ length (now numbers) ⌝ }
+    ensures { λ r. ⌜ r ≡ isDc (now (numbers .entry)) ⌝ }
 {
-    if l[SURFACE] > 1 {
+    if numbers[SURFACE] > 1 {
         return false;
     }
-    if l[BK_TRANSPARENT] > 1 {
+    if numbers[BK_TRANSPARENT] > 1 {
         return false;
     }
-    if l[BITMAP_PRESENT] == 1 {
+    if numbers[BITMAP_PRESENT] == 1 {
         return true;
     }
-    if l[BITMAP_PRESENT] != 0 {
+    if numbers[BITMAP_PRESENT] != 0 {
         return false;
     }
-    l[BITMAP] == 0
+    numbers[BITMAP] == 0
 }
 
 // Whether an object's numbers from k on are 0. All their bits at once tell, which is faster than to stop at the first number that
 // is not.
-fn zeros_from(l: &[u32], k: usize) -> bool
-    requires { ⌜ (k ≤ objectSize) × (objectSize ≤ length (now l)) ⌝ }
-    ensures { λ r. ⌜ r ≡ zerosFrom (now (l .entry)) k ⌝ }
+fn zeros_from(numbers: &[u32], k: usize) -> bool
+    requires { ⌜ (k ≤ objectSize) × (objectSize ≤ length (now numbers)) ⌝ }
+    ensures { λ r. ⌜ r ≡ zerosFrom (now (numbers .entry)) k ⌝ }
 {
     let mut bits: u32 = 0;
     let mut i = k;
     while i < OBJECT_SIZE {
-        bits |= l[i];
+        bits |= numbers[i];
         i += 1;
     }
     bits == 0

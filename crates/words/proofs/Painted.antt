@@ -9,8 +9,8 @@ use native.Mathlib.Omega.{arith}
 use lib.Dec.{eqb}
 use lib.ListN.{getD, length, set}
 use borrow.Author.Tests.{eq-eqb, ne-eqb}
-use Rattle.laws.specs.Interval.{between}
-use Rattle.laws.proofs.Interval.{between-yes, between-no}
+use Rattle.arithmetic.specs.Interval.{between}
+use Rattle.arithmetic.proofs.Interval.{between-yes, between-no}
 use Rattle.words.specs.Words.{word, byteOf, painted}
 use Rattle.words.proofs.Written.{length-written, written-at, is-written, written-none, written-same, written-again, written-set}
 

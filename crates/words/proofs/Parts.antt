@@ -7,8 +7,8 @@ use native.Mathlib.Decide.{decLt}
 use native.Mathlib.Omega.{arith}
 use lib.ListN.{length, take, drop, getD, length-take, length-drop, length-append, List·getD-append}
 use lib.Seq.{take-at, drop-at, getD-take, getD-drop, getD-append-add, ext-getD, length-take-le}
-use Rattle.laws.specs.Interval.{between}
-use Rattle.laws.proofs.Interval.{between-yes, between-no}
+use Rattle.arithmetic.specs.Interval.{between}
+use Rattle.arithmetic.proofs.Interval.{between-yes, between-no}
 use Rattle.words.specs.Parts.{part, withPart}
 use Rattle.words.specs.Words.{painted, word, byteOf}
 use Rattle.words.proofs.Painted.{length-painted, painted-at, is-painted}

@@ -1,11 +1,11 @@
 //! Call scripts, as in docs/call-script.md, performed on the library in both of
-//! its forms: a bench by its methods, and a record by calls as numbers, on
+//! its forms: a device by its methods, and a record by calls as numbers, on
 //! memories of its own. They must agree, call by call.
 
 use std::path::PathBuf;
 
 use ravinefork::{
-    call, Area, Bench, Colorref, Dc, DcSurface, GdiObject, Handle, HostCall, Point, Record,
+    call, Area, Device, Colorref, Dc, DcSurface, GdiObject, Handle, HostCall, Point, Record,
     Refusal, Reply, Rgb565,
 };
 
@@ -14,7 +14,7 @@ pub fn path(of: &str) -> PathBuf {
     PathBuf::from(concat!(env!("CARGO_MANIFEST_DIR"), "/..")).join(of)
 }
 
-/// The byte of a look, which is no call on the bench.
+/// The byte of a look, which is no call on the device.
 const LOOK: u8 = 0x7F;
 
 /// What each call takes, by its byte.
@@ -144,35 +144,35 @@ fn drawn(answer: Result<(), Refusal>) -> String {
     answer.err().map_or(0, |refusal| refusal.0).to_string()
 }
 
-/// The call by the bench's method, and its line; none if there is no such call.
-fn by_method(bench: &mut Bench, host: &HostCall, units: &[u16]) -> Option<String> {
+/// The call by the device's method, and its line; none if there is no such call.
+fn by_method(device: &mut Device, host: &HostCall, units: &[u16]) -> Option<String> {
     let &HostCall { a, b, x, y, w, h, src_x, src_y, .. } = host;
     let [dc, src, object] = [host.dc, host.src, a].map(Handle);
     let (area, color, from) = (Area { x, y, w, h }, Colorref(a), Point { x: src_x, y: src_y });
     let handle = |made| line(made, Handle(0), |handle| handle.to_string());
     let old = |old| line(old, Colorref(0), |color| hex(color.0));
     Some(match host.call {
-        call::CREATE_MEMORY_DC => handle(bench.create_memory_dc()),
-        call::CREATE_COMPATIBLE_BITMAP => handle(bench.create_compatible_bitmap(a, b)),
-        call::CREATE_SOLID_BRUSH => handle(bench.create_solid_brush(color)),
-        call::CREATE_PEN => handle(bench.create_pen(color, b)),
-        call::CREATE_FONT => handle(bench.create_font(h)),
-        call::DELETE => line(bench.delete(object), false, flag),
-        call::REMOVE => line(bench.remove(object), None, shown),
-        call::SELECT_INTO => handle(bench.select_into(dc, object)),
-        call::SET_TEXT_COLOR => old(bench.set_text_color(dc, color)),
-        call::SET_TEXT_ALIGN => line(bench.set_text_align(dc, a), 0, hex),
-        call::SET_BK_COLOR => old(bench.set_bk_color(dc, color)),
-        call::SET_BK_MODE if a <= 1 => line(bench.set_bk_mode(dc, a == 1), false, flag),
-        call::PATTERN_FILL => drawn(bench.pattern_fill(dc, area, a)),
-        call::RECTANGLE => drawn(bench.rectangle(dc, area)),
+        call::CREATE_MEMORY_DC => handle(device.create_memory_dc()),
+        call::CREATE_COMPATIBLE_BITMAP => handle(device.create_compatible_bitmap(a, b)),
+        call::CREATE_SOLID_BRUSH => handle(device.create_solid_brush(color)),
+        call::CREATE_PEN => handle(device.create_pen(color, b)),
+        call::CREATE_FONT => handle(device.create_font(h)),
+        call::DELETE => line(device.delete(object), false, flag),
+        call::REMOVE => line(device.remove(object), None, shown),
+        call::SELECT_INTO => handle(device.select_into(dc, object)),
+        call::SET_TEXT_COLOR => old(device.set_text_color(dc, color)),
+        call::SET_TEXT_ALIGN => line(device.set_text_align(dc, a), 0, hex),
+        call::SET_BK_COLOR => old(device.set_bk_color(dc, color)),
+        call::SET_BK_MODE if a <= 1 => line(device.set_bk_mode(dc, a == 1), false, flag),
+        call::PATTERN_FILL => drawn(device.pattern_fill(dc, area, a)),
+        call::RECTANGLE => drawn(device.rectangle(dc, area)),
         call::TEXT => {
-            let advance = bench.text_out(dc, Point { x, y }, units);
+            let advance = device.text_out(dc, Point { x, y }, units);
             line(advance, 0, |advance| advance.to_string())
         }
-        call::PANEL_FILL => drawn(bench.panel_fill(Rgb565(u16::try_from(a).ok()?))),
-        call::RESIZE => drawn(bench.resize(a, b)),
-        call::BLIT => drawn(bench.blit(dc, area, src, from, a)),
+        call::PANEL_FILL => drawn(device.panel_fill(Rgb565(u16::try_from(a).ok()?))),
+        call::RESIZE => drawn(device.resize(a, b)),
+        call::BLIT => drawn(device.blit(dc, area, src, from, a)),
         _ => return None,
     })
 }
@@ -192,9 +192,9 @@ fn by_numbers(call: u32, reply: &Reply) -> Option<String> {
     })
 }
 
-/// The lines of what a bench has come to, in both forms.
-fn looked_at(bench: &Bench, record: &Record, panel: &[u8], store: &[u8]) -> Vec<String> {
-    assert!(panel == bench.panel() && store == bench.store(), "the memories differ");
+/// The lines of what a device has come to, in both forms.
+fn looked_at(device: &Device, record: &Record, panel: &[u8], store: &[u8]) -> Vec<String> {
+    assert!(panel == device.panel() && store == device.store(), "the memories differ");
     state(record, panel, store)
 }
 
@@ -238,10 +238,10 @@ fn lines(script: &[u8]) -> (Vec<String>, usize) {
     let (mut panel, mut store, mut record) =
         (memory(panel_len), memory(store_len), Record::default());
     let opened = record.open(width, height, &mut panel, &mut store);
-    let bench = Bench::open_on(width, height, memory(panel_len), memory(store_len));
+    let device = Device::open_on(width, height, memory(panel_len), memory(store_len));
     let mut lines = vec![format!("open {}", drawn(opened))];
-    let mut bench = match bench {
-        Ok(bench) => bench,
+    let mut device = match device {
+        Ok(device) => device,
         Err(refusal) => {
             assert_eq!(opened, Err(refusal));
             lines.extend(state(&record, &panel, &store));
@@ -251,15 +251,15 @@ fn lines(script: &[u8]) -> (Vec<String>, usize) {
     let mut calls = 0;
     while let Some((&first, behind)) = rest.split_first() {
         if first == LOOK {
-            lines.extend(looked_at(&bench, &record, &panel, &store));
+            lines.extend(looked_at(&device, &record, &panel, &store));
             rest = behind;
             continue;
         }
         let line = read(&mut rest).and_then(|(host, units)| {
-            let line = by_method(&mut bench, &host, &units);
+            let line = by_method(&mut device, &host, &units);
             let reply = record.perform(&host, &units, &mut panel, &mut store);
             assert_eq!(by_numbers(host.call, &reply), line, "{host:x?}");
-            assert!(record == *bench.record(), "the records differ after {host:x?}");
+            assert!(record == *device.record(), "the records differ after {host:x?}");
             line.map(|line| format!("{:02x} {line}", host.call))
         });
         let Some(line) = line else {
@@ -269,7 +269,7 @@ fn lines(script: &[u8]) -> (Vec<String>, usize) {
         lines.push(line);
         calls += 1;
     }
-    lines.extend(looked_at(&bench, &record, &panel, &store));
+    lines.extend(looked_at(&device, &record, &panel, &store));
     (lines, calls)
 }
 

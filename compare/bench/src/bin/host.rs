@@ -1,4 +1,4 @@
-//! Times whole calls on a bench through the host library beside the original's,
+//! Times whole calls on a device through the host library beside the original's,
 //! and beside the pixel work alone: the same drawing by the proved operation on
 //! lent bytes. In each round one after the other, the order changing, each on a
 //! scene of its own; a row has the medians over the rounds. The answers, panels,
@@ -15,7 +15,7 @@ use std::time::Instant;
 use pocket_kernel::font::draw_str_u16;
 use pocket_kernel::framebuffer::{colorref_to_rgb565, Framebuffer};
 use pocket_kernel::gdi::{rop3, GdiState, Surface, GDI_SCREEN_DC};
-use ravinefork::{Area, Bench, Colorref, Handle, Point, Refusal, Rgb565};
+use ravinefork::{Area, Device, Colorref, Handle, Point, Refusal, Rgb565};
 
 /// About how long one of them is timed in a round, in nanoseconds, and how often
 /// it is called at most; fewer than the handles before the stock ones.
@@ -95,9 +95,9 @@ trait Scene {
     fn call(&mut self, call: Call, i: u32) -> u32;
 }
 
-/// The proved bench, and its last snapshot.
+/// The proved device, and its last snapshot.
 struct Host {
-    bench: Bench,
+    device: Device,
     handles: Handles,
     units: Vec<u16>,
     snapshot: Vec<u8>,
@@ -106,68 +106,68 @@ struct Host {
 impl Host {
     fn made(brushes: u32) -> Result<Host, Refusal> {
         let [width, height] = PANEL;
-        let mut bench = Bench::open(width, height, (2 * width * height) as usize, 1 << 20)?;
-        bench.panel_fill(Rgb565(0xA5C3))?;
+        let mut device = Device::open(width, height, (2 * width * height) as usize, 1 << 20)?;
+        device.panel_fill(Rgb565(0xA5C3))?;
         for i in 0..brushes {
-            bench.create_solid_brush(Colorref(i))?;
+            device.create_solid_brush(Colorref(i))?;
         }
-        let dc = bench.create_memory_dc()?;
-        let bitmap = bench.create_compatible_bitmap(BITMAP[0], BITMAP[1])?;
-        bench.select_into(dc, bitmap)?;
-        bench.rectangle(dc, Area { x: 10, y: 20, w: 80, h: 50 })?;
-        let brush = bench.create_solid_brush(Colorref(0x0012_3456))?;
+        let dc = device.create_memory_dc()?;
+        let bitmap = device.create_compatible_bitmap(BITMAP[0], BITMAP[1])?;
+        device.select_into(dc, bitmap)?;
+        device.rectangle(dc, Area { x: 10, y: 20, w: 80, h: 50 })?;
+        let brush = device.create_solid_brush(Colorref(0x0012_3456))?;
         let handles = Handles { dc: dc.0, bitmap: bitmap.0, brush: brush.0 };
         let units = TEXT.encode_utf16().collect();
-        Ok(Host { bench, handles, units, snapshot: vec![0; RGBA] })
+        Ok(Host { device, handles, units, snapshot: vec![0; RGBA] })
     }
 
     fn answer(&mut self, call: Call, i: u32) -> Result<u32, Refusal> {
-        let bench = &mut self.bench;
+        let device = &mut self.device;
         let (dc, screen) = (Handle(black_box(self.handles.dc)), Handle::GDI_SCREEN_DC);
         let [x, y, w, h] = AREA;
         let area = Area { x, y, w, h };
         Ok(match call {
-            Call::SetTextColor => bench.set_text_color(dc, Colorref(i))?.0,
+            Call::SetTextColor => device.set_text_color(dc, Colorref(i))?.0,
             Call::Select => {
-                let old = bench.select_into(dc, Handle(self.handles.brush))?;
+                let old = device.select_into(dc, Handle(self.handles.brush))?;
                 self.handles.brush = old.0;
                 old.0
             }
             Call::Brush => {
-                let handle = bench.create_solid_brush(Colorref(i))?;
-                bench.delete(black_box(handle))?;
+                let handle = device.create_solid_brush(Colorref(i))?;
+                device.delete(black_box(handle))?;
                 handle.0
             }
             Call::Bitmap => {
-                let handle = bench.create_compatible_bitmap(BITMAP[0], BITMAP[1])?;
-                bench.delete(black_box(handle))?;
+                let handle = device.create_compatible_bitmap(BITMAP[0], BITMAP[1])?;
+                device.delete(black_box(handle))?;
                 handle.0
             }
-            Call::PanelFill => bench.panel_fill(Rgb565(black_box(i as u16))).map(|()| 0)?,
+            Call::PanelFill => device.panel_fill(Rgb565(black_box(i as u16))).map(|()| 0)?,
             Call::Resize => {
                 let [width, height] = sides(i);
-                bench.resize(width, height)?;
-                bench.width()
+                device.resize(width, height)?;
+                device.width()
             }
             Call::PatternFill => {
-                bench.pattern_fill(screen, area, black_box(rop3::PATCOPY)).map(|()| 0)?
+                device.pattern_fill(screen, area, black_box(rop3::PATCOPY)).map(|()| 0)?
             }
-            Call::Rectangle => bench.rectangle(screen, black_box(area)).map(|()| 0)?,
+            Call::Rectangle => device.rectangle(screen, black_box(area)).map(|()| 0)?,
             Call::Blit => {
                 let from = Point { x: 0, y: 0 };
-                bench.blit(screen, area, dc, from, black_box(rop3::SRCCOPY)).map(|()| 0)?
+                device.blit(screen, area, dc, from, black_box(rop3::SRCCOPY)).map(|()| 0)?
             }
             Call::Text => {
                 let at = Point { x: TEXT_AT[0], y: TEXT_AT[1] };
-                bench.text_out(screen, at, black_box(&self.units))?
+                device.text_out(screen, at, black_box(&self.units))?
             }
             Call::SnapshotRgba => {
-                let panel = black_box(bench.panel());
-                bench.record().snapshot_rgba8888_into(panel, &mut self.snapshot)?;
+                let panel = black_box(device.panel());
+                device.record().snapshot_rgba8888_into(panel, &mut self.snapshot)?;
                 brief(&self.snapshot)
             }
             Call::SnapshotPpm => {
-                self.snapshot = black_box(bench).snapshot_ppm()?;
+                self.snapshot = black_box(device).snapshot_ppm()?;
                 brief(&self.snapshot)
             }
         })
@@ -176,7 +176,7 @@ impl Host {
 
 impl Scene for Host {
     fn new(brushes: u32) -> Self {
-        Host::made(brushes).expect("a bench")
+        Host::made(brushes).expect("a device")
     }
 
     fn call(&mut self, call: Call, i: u32) -> u32 {
@@ -394,17 +394,17 @@ fn check(call: Call, brushes: u32) {
         let alone = pixels.call(call, i);
         assert!(!call.draws() || alone == answer, "the answers differ");
     }
-    let (bench, handles) = (&host.bench, original.handles);
-    assert!(bench.panel() == original.panel.pixels, "the panels differ");
+    let (device, handles) = (&host.device, original.handles);
+    assert!(device.panel() == original.panel.pixels, "the panels differ");
     assert!(pixels.panel.pixels == original.panel.pixels, "the panels differ");
     let [width, height] = [original.panel.width, original.panel.height];
-    assert_eq!([bench.width(), bench.height()], [width, height], "the sides differ");
+    assert_eq!([device.width(), device.height()], [width, height], "the sides differ");
     assert!(host.snapshot == original.snapshot, "the snapshots differ");
     let bitmap = &original.gdi.bitmap(handles.bitmap).expect("the bitmap").pixels;
-    assert!(bench.bitmap_pixels(Handle(handles.bitmap)) == Some(bitmap), "the bitmaps differ");
-    assert_eq!(bench.frame_counter(), original.panel.frame_counter, "the marks differ");
+    assert!(device.bitmap_pixels(Handle(handles.bitmap)) == Some(bitmap), "the bitmaps differ");
+    assert_eq!(device.frame_counter(), original.panel.frame_counter, "the marks differ");
     let theirs = original.gdi.dc(handles.dc).expect("the DC");
-    let ours = bench.record().dc(Handle(handles.dc)).expect("the DC");
+    let ours = device.record().dc(Handle(handles.dc)).expect("the DC");
     assert_eq!(ours.text_color.0, theirs.text_color, "the text colours differ");
     assert_eq!(ours.selected_brush.0, theirs.selected_brush, "the brushes differ");
     assert_eq!(ours.brush_color.0, theirs.brush_color, "the brushes differ");
@@ -415,7 +415,7 @@ fn median(mut times: Vec<f64>) -> f64 {
     times[times.len() / 2]
 }
 
-/// The medians of the call on the bench, by the original, and of its pixel work.
+/// The medians of the call on the device, by the original, and of its pixel work.
 fn measure(call: Call, objects: u32, rounds: u32) -> [f64; 3] {
     let brushes = call.brushes(objects);
     check(call, brushes);

@@ -5,7 +5,7 @@ use Rattle.place.specs.declared.Site.{Site}
 use Rattle.place.proofs.Targets.{target-placed}
 use Rattle.plan.proofs.Followed.{followed-as, refusal, strokes-followed}
 use Rattle.draw.proofs.Drawings.{within-lent}
-use Rattle.bitblt.proofs.Blits.{beside-found, blit-made, as-fill, refused-1, refused-2, refused-3, refused-4, accepted}
+use Rattle.bitblt.proofs.Blits.{apart-found, blit-made, as-fill, refused-1, refused-2, refused-3, refused-4, accepted}
 use borrow.Author.Needs.{needs}
 use Rattle.bitblt.proofs.blit.Statement.{statement}
 use Rattle.bitblt.proofs.blit.Tie as tie
@@ -31,7 +31,7 @@ returns c =
     let i = p .before .before .before .before in
     let u = i .before in
     let s = u .before .before .before .before in
-    followed-as (as-fill (view (s .args .l .now)) (s .args .dc) (s .args .area) (s .args .src) (s .args .from) (s .args .rop) (u .uses-src .ensures) (i .if1 .taken)) (p .pattern-fill .ensures)
+    followed-as (as-fill (view (s .args .numbers .now)) (s .args .dc) (s .args .area) (s .args .src) (s .args .from) (s .args .rop) (u .uses-src .ensures) (i .if1 .taken)) (p .pattern-fill .ensures)
 
 target-of-requires : tie.Need-target-of-requires
 target-of-requires c κs = search needs
@@ -69,7 +69,7 @@ blit-at-requires c κs =
     let b = a .before .before .before .before .before .before .before in
     let v = target-placed _ (b .pre .ready .sound) _ (a .target-of .ensures) (i .id .given .1) in
     let w = target-placed _ (b .pre .ready .sound) _ (t .target-of2 .ensures) (s .source .given .1) in
-    ((within-lent (b .pre .ready) v, within-lent (b .pre .ready) w), beside-found v w)
+    ((within-lent (b .pre .ready) v, within-lent (b .pre .ready) w), apart-found v w)
 
 mark-dirty-if-requires : tie.Need-mark-dirty-if-requires
 mark-dirty-if-requires c κs =
@@ -87,7 +87,7 @@ returns-2 c =
     let i = t .before .before in
     let u = i .before in
     let s = u .before .before .before .before in
-    refusal (s .pre .is-record) (refused-1 (view (s .args .l .now)) (s .args .dc) (s .args .area) (s .args .src) (s .args .from) (s .args .rop) (u .uses-src .ensures) (i .if1 .left) (t .target-of .ensures) (c .enum-told .given .1))
+    refusal (s .pre .is-record) (refused-1 (view (s .args .numbers .now)) (s .args .dc) (s .args .area) (s .args .src) (s .args .from) (s .args .rop) (u .uses-src .ensures) (i .if1 .left) (t .target-of .ensures) (c .enum-told .given .1))
 
 same-length-5 : tie.Need-same-length-5
 same-length-5 c = search needs
@@ -98,7 +98,7 @@ returns-3 c =
     let i = t .before .before in
     let u = i .before in
     let s = u .before .before .before .before in
-    refusal (s .pre .is-record) (refused-2 (view (s .args .l .now)) (s .args .dc) (s .args .area) (s .args .src) (s .args .from) (s .args .rop) (u .uses-src .ensures) (i .if1 .left) (t .target-of .ensures) (c .enum-told2 .given .1))
+    refusal (s .pre .is-record) (refused-2 (view (s .args .numbers .now)) (s .args .dc) (s .args .area) (s .args .src) (s .args .from) (s .args .rop) (u .uses-src .ensures) (i .if1 .left) (t .target-of .ensures) (c .enum-told2 .given .1))
 
 same-length-6 : tie.Need-same-length-6
 same-length-6 c = search needs
@@ -111,7 +111,7 @@ returns-4 c =
     let b = a .before .before in
     let u = b .before in
     let s = u .before .before .before .before in
-    refusal (s .pre .is-record) (refused-3 (view (s .args .l .now)) (s .args .dc) (s .args .area) (s .args .src) (s .args .from) (s .args .rop) (u .uses-src .ensures) (b .if1 .left) (a .target-of .ensures) (i .id .given .1) (t .target-of2 .ensures) (c .enum-told3 .given .1))
+    refusal (s .pre .is-record) (refused-3 (view (s .args .numbers .now)) (s .args .dc) (s .args .area) (s .args .src) (s .args .from) (s .args .rop) (u .uses-src .ensures) (b .if1 .left) (a .target-of .ensures) (i .id .given .1) (t .target-of2 .ensures) (c .enum-told3 .given .1))
 
 same-length-7 : tie.Need-same-length-7
 same-length-7 c = search needs
@@ -124,7 +124,7 @@ returns-5 c =
     let b = a .before .before in
     let u = b .before in
     let s = u .before .before .before .before in
-    refusal (s .pre .is-record) (refused-4 (view (s .args .l .now)) (s .args .dc) (s .args .area) (s .args .src) (s .args .from) (s .args .rop) (u .uses-src .ensures) (b .if1 .left) (a .target-of .ensures) (i .id .given .1) (t .target-of2 .ensures) (c .enum-told4 .given .1))
+    refusal (s .pre .is-record) (refused-4 (view (s .args .numbers .now)) (s .args .dc) (s .args .area) (s .args .src) (s .args .from) (s .args .rop) (u .uses-src .ensures) (b .if1 .left) (a .target-of .ensures) (i .id .given .1) (t .target-of2 .ensures) (c .enum-told4 .given .1))
 
 same-length-8 : tie.Need-same-length-8
 same-length-8 c = search needs
@@ -147,7 +147,7 @@ returns-6 c =
     let e = d .before .before in
     let u = e .before in
     let f = u .before .before .before .before in
-    strokes-followed refl (accepted (view (f .args .l .now)) (f .args .dc) (f .args .area) (f .args .src) (f .args .from) (f .args .rop) (u .uses-src .ensures) (e .if1 .left) (d .target-of .ensures) (i .id .given .1) (t .target-of2 .ensures) (s .source .given .1))
+    strokes-followed refl (accepted (view (f .args .numbers .now)) (f .args .dc) (f .args .area) (f .args .src) (f .args .from) (f .args .rop) (u .uses-src .ensures) (e .if1 .left) (d .target-of .ensures) (i .id .given .1) (t .target-of2 .ensures) (s .source .given .1))
     (blit-made (target-placed _ (f .pre .ready .sound) _ (d .target-of .ensures) (i .id .given .1)) (target-placed _ (f .pre .ready .sound) _ (t .target-of2 .ensures) (s .source .given .1))
     _ _ _ (a .colorref-to-rgb565 .ensures) (b .blit-at .ensures) (m .mark-dirty-if .ensures))
 

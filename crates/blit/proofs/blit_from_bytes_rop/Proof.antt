@@ -4,7 +4,7 @@ use mathlib.Core.List.{List}
 use Prim.Native.Nat.{ℕ}
 use lib.ListN.{length}
 use borrow.Author.Needs.{needs}
-use Rattle.laws.proofs.Machine.{held32, stored32}
+use Rattle.arithmetic.proofs.Machine.{held32, stored32}
 use Rattle.rop3.specs.Rop3.{tableOf}
 use Rattle.surface.specs.Refusal.{refusalFrom}
 use Rattle.surface.proofs.Accepted.{in-order-from}

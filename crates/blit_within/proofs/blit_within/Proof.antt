@@ -3,7 +3,7 @@ use mathlib.Core.Path.{_≡_}
 use mathlib.Core.Logic.{inl, inr}
 use native.Mathlib.Omega.{arith}
 use borrow.Author.Needs.{needs}
-use Rattle.laws.proofs.Machine.{stored32}
+use Rattle.arithmetic.proofs.Machine.{stored32}
 use Rattle.rop3.specs.Rop3.{tableOf}
 use Rattle.blit.specs.Blit.{Blit, blitOf, clipped}
 use Rattle.blit_within.proofs.Within.{empty-within, room-within, drawn-within}

@@ -6,10 +6,10 @@ use native.Mathlib.Omega.{arith}
 use lib.IntN.{ℤ, natAbs}
 use mir.Val.{toZ, ofZ}
 use mir.Syntax.{w64}
-use Rattle.laws.specs.Integer.{positive}
-use Rattle.laws.specs.Inner.{negative}
-use Rattle.laws.proofs.Integer.{tested-negative, tested-positive, abs-positive, not-negative}
-use Rattle.laws.proofs.Machine.{stored64, range64}
+use Rattle.arithmetic.specs.Integer.{positive}
+use Rattle.arithmetic.specs.Inner.{negative}
+use Rattle.arithmetic.proofs.Integer.{tested-negative, tested-positive, abs-positive, not-negative}
+use Rattle.arithmetic.proofs.Machine.{stored64, range64}
 use Rattle.clip.specs.Clip.{nearest}
 use Rattle.clip.proofs.Clip.{nearest-parts}
 use Rattle.clip.proofs.clamp.Statement.{statement}

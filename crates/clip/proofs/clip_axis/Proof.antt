@@ -2,7 +2,7 @@
 use borrow.Author.Needs.{needs}
 use mathlib.Core.Path.{_≡_}
 use lib.IntN.{ℤ, _+ℤ_}
-use Rattle.laws.proofs.Machine.{held32, held64, cast-fits, cast-held, Terms, signed-term, sum-terms, terms-fit, terms-held}
+use Rattle.arithmetic.proofs.Machine.{held32, held64, cast-fits, cast-held, Terms, signed-term, sum-terms, terms-fit, terms-held}
 use Rattle.clip.specs.Clip.{clippedAxis}
 use Rattle.clip.proofs.clip_axis.Statement.{statement}
 use Rattle.clip.proofs.clip_axis.Tie as tie

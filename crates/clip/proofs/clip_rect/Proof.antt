@@ -1,6 +1,6 @@
 -- `clip::clip_rect` meets its contract: it clips each axis. Assumes nothing.
 use borrow.Author.Needs.{needs}
-use Rattle.laws.proofs.Machine.{stored32}
+use Rattle.arithmetic.proofs.Machine.{stored32}
 use Rattle.clip.proofs.clip_rect.Statement.{statement}
 use Rattle.clip.proofs.clip_rect.Tie as tie
 

@@ -1,6 +1,6 @@
 -- `clip_blit::clip_blit` meets its contract: it clips each axis. Assumes nothing.
 use borrow.Author.Needs.{needs}
-use Rattle.laws.proofs.Machine.{stored32}
+use Rattle.arithmetic.proofs.Machine.{stored32}
 use Rattle.clip_blit.proofs.clip_blit.Statement.{statement}
 use Rattle.clip_blit.proofs.clip_blit.Tie as tie
 

@@ -10,10 +10,10 @@ use lib.IntN.{ℤ, pos, _+ℤ_, _-ℤ_}
 use mir.Val.{toZ}
 use mir.Syntax.{w64}
 use borrow.Author.Tests.{lt-ltb, le-ltb}
-use Rattle.laws.specs.Integer.{positive}
-use Rattle.laws.specs.Inner.{negative}
-use Rattle.laws.proofs.Integer.{abs-positive, not-negative}
-use Rattle.laws.proofs.Machine.{stored32, natural64, held32, held64, cast-fits, cast-held, Terms, signed-term, natural-term, sum-terms, difference-terms, terms-fit, terms-held}
+use Rattle.arithmetic.specs.Integer.{positive}
+use Rattle.arithmetic.specs.Inner.{negative}
+use Rattle.arithmetic.proofs.Integer.{abs-positive, not-negative}
+use Rattle.arithmetic.proofs.Machine.{stored32, natural64, held32, held64, cast-fits, cast-held, Terms, signed-term, natural-term, sum-terms, difference-terms, terms-fit, terms-held}
 use Rattle.clip.specs.declared.Span.{Span}
 use Rattle.clip.specs.Clip.{nearest, clippedAxis}
 use Rattle.clip_blit.specs.Blit.{shifted, nothing, blitAxis}

@@ -1,6 +1,6 @@
 -- `create::create_compatible_bitmap` meets its contract. Assumes nothing.
 use native.Mathlib.Omega.{arith}
-use Rattle.laws.proofs.Test.{together}
+use Rattle.arithmetic.proofs.Test.{together}
 use Rattle.create.proofs.Made.{side-taken, too-wide, too-high, sized}
 use borrow.Author.Needs.{needs}
 use Rattle.create.proofs.create_compatible_bitmap.Statement.{statement}

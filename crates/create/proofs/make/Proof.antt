@@ -51,7 +51,7 @@ returns-2 c =
 zero-requires : tie.Need-zero-requires
 zero-requires c κs =
     let s = c .before .before .before .before .before .before .before .before .before .before in
-    omega (arith, store-len-seen (s .args .l .now), s .pre .0 .ready .store)
+    omega (arith, store-len-seen (s .args .numbers .now), s .pre .0 .ready .store)
 
 alloc-handle-requires : tie.Need-alloc-handle-requires
 alloc-handle-requires c κs = search needs

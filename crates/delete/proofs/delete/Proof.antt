@@ -24,7 +24,7 @@ take-out-requires c κs =
     let i = c .before .before .before in
     let f = i .before .before in
     let s = f .before .before .before .before .before .before in
-    (s .pre .is-record, (s .pre .ready .sound, (found-in (s .args .l .now) _ (sym (f .find .ensures) ∙ i .i .given .1), s .pre .ready .store)))
+    (s .pre .is-record, (s .pre .ready .sound, (found-in (s .args .numbers .now) _ (sym (f .find .ensures) ∙ i .i .given .1), s .pre .ready .store)))
 
 enum-told : tie.Need-enum-told
 enum-told c = search needs

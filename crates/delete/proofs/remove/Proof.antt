@@ -99,7 +99,7 @@ take-out-requires c κs =
     let i = c .before .before .before .before .before .before .before in
     let f = i .before .before in
     let s = f .before .before .before .before .before .before in
-    (s .pre .is-record, (s .pre .ready .sound, (found-in (s .args .l .now) _ (sym (f .find .ensures) ∙ i .i .given .1), s .pre .ready .store)))
+    (s .pre .is-record, (s .pre .ready .sound, (found-in (s .args .numbers .now) _ (sym (f .find .ensures) ∙ i .i .given .1), s .pre .ready .store)))
 
 enum-told : tie.Need-enum-told
 enum-told c = search needs
@@ -119,8 +119,8 @@ returns-2 c =
     let a = f .before .before in
     let b = a .before in
     let s = b .before .before .before in
-    gone-followed _ _ _ (s .args .l .now) _ (leaves _ _ _ _ _ (sym (b .is-stock-handle .ensures) ∙ a .if1 .left) (f .find .ensures) (i .i .given .1))
-    (ap removed (object-read (s .args .l .now) (s .pre .is-record) _ (found-in (s .args .l .now) _ (sym (f .find .ensures) ∙ i .i .given .1)) (o .object-of .ensures))) refl
+    gone-followed _ _ _ (s .args .numbers .now) _ (leaves _ _ _ _ _ (sym (b .is-stock-handle .ensures) ∙ a .if1 .left) (f .find .ensures) (i .i .given .1))
+    (ap removed (object-read (s .args .numbers .now) (s .pre .is-record) _ (found-in (s .args .numbers .now) _ (sym (f .find .ensures) ∙ i .i .given .1)) (o .object-of .ensures))) refl
     (t .take-out .ensures .0) (t .take-out .ensures .1)
 
 same-length-3 : tie.Need-same-length-3

@@ -29,17 +29,17 @@ add-frames c = omega (arith, c .slice-known3 .given framesLowPlace, c .slice-kno
 wrapping-add-u64-requires : tie.Need-wrapping-add-u64-requires
 wrapping-add-u64-requires c κs = search needs
 
-cast-l : tie.Need-cast-l
-cast-l c = search needs
+cast-numbers : tie.Need-cast-numbers
+cast-numbers c = search needs
 
-slice-write-l : tie.Need-slice-write-l
-slice-write-l c = omega (arith, record-length _ (c .before .before .before .before .pre))
+slice-write-numbers : tie.Need-slice-write-numbers
+slice-write-numbers c = omega (arith, record-length _ (c .before .before .before .before .pre))
 
-cast-l-2 : tie.Need-cast-l-2
-cast-l-2 c = search needs
+cast-numbers-2 : tie.Need-cast-numbers-2
+cast-numbers-2 c = search needs
 
-slice-write-l-2 : tie.Need-slice-write-l-2
-slice-write-l-2 c = simp length-set (omega (arith, record-length _ (c .before .before .before .before .pre)))
+slice-write-numbers-2 : tie.Need-slice-write-numbers-2
+slice-write-numbers-2 c = simp length-set (omega (arith, record-length _ (c .before .before .before .before .pre)))
 
 same-length : tie.Need-same-length
 same-length c = search needs
@@ -58,9 +58,9 @@ count-frame-spec =
     mul-frames
     add-frames
     wrapping-add-u64-requires
-    cast-l
-    slice-write-l
-    cast-l-2
-    slice-write-l-2
+    cast-numbers
+    slice-write-numbers
+    cast-numbers-2
+    slice-write-numbers-2
     same-length
     returns)

@@ -2,9 +2,9 @@
 use mathlib.Core.Path.{refl}
 use native.Mathlib.Omega.{arith}
 use Rattle.numbers.proofs.Seen.{found-in, record-length}
-use Rattle.numbers.proofs.Kept.{stored-same}
+use Rattle.numbers.proofs.Kept.{updated-same}
 use Rattle.dirty.proofs.Marks.{mark-panel, mark-stock, slot-found, mark-found, mark-none}
-use Rattle.dirty.proofs.Numbers.{stored-as, stock-set}
+use Rattle.dirty.proofs.Numbers.{updated-as, stock-set}
 use borrow.Author.Needs.{needs}
 use Rattle.dirty.proofs.mark_dirty.Statement.{statement}
 use Rattle.dirty.proofs.mark_dirty.Tie as tie
@@ -18,14 +18,14 @@ count-frame-requires c κs = search needs
 enum-known-id : tie.Need-enum-known-id
 enum-known-id c = search needs
 
-slice-write-l : tie.Need-slice-write-l
-slice-write-l c = omega (arith, record-length _ (c .before .before .before .before .before .pre .0))
+slice-write-numbers : tie.Need-slice-write-numbers
+slice-write-numbers c = omega (arith, record-length _ (c .before .before .before .before .before .pre .0))
 
 same-length : tie.Need-same-length
 same-length c = search needs
 
 returns : tie.Need-returns
-returns c = stored-as (mark-stock _ (c .before .before .id .given .1) (c .if1 .taken)) (stock-set _ (c .before .before .before .before .before .pre .0))
+returns c = updated-as (mark-stock _ (c .before .before .id .given .1) (c .if1 .taken)) (stock-set _ (c .before .before .before .before .before .pre .0))
 
 enum-known-slot : tie.Need-enum-known-slot
 enum-known-slot c = search needs
@@ -45,7 +45,7 @@ same-length-2 : tie.Need-same-length-2
 same-length-2 c = search needs
 
 returns-2 : tie.Need-returns-2
-returns-2 c = stored-as (mark-panel _ (c .before .before .before .before .enum-told .given .1) refl) (c .before .before .count-frame .ensures)
+returns-2 c = updated-as (mark-panel _ (c .before .before .before .before .enum-told .given .1) refl) (c .before .before .count-frame .ensures)
 
 same-length-3 : tie.Need-same-length-3
 same-length-3 c = search needs
@@ -57,14 +57,14 @@ returns-3 c =
     let i = s .before .before in
     let a = i .before .before in
     let b = a .before .before .before in
-    stored-as (mark-found _ (a .id .given .1) (i .if1 .left) (slot-found _ (a .id .given .1) (i .if1 .left) (b .pre .1) (s .slot .given .1)) refl) (m .mark-slot .ensures)
+    updated-as (mark-found _ (a .id .given .1) (i .if1 .left) (slot-found _ (a .id .given .1) (i .if1 .left) (b .pre .1) (s .slot .given .1)) refl) (m .mark-slot .ensures)
 
 returns-4 : tie.Need-returns-4
 returns-4 c =
     let i = c .before .before in
     let a = i .before .before in
     let s = a .before .before .before in
-    stored-as (mark-none _ (a .id .given .1) (i .if1 .left) (slot-found _ (a .id .given .1) (i .if1 .left) (s .pre .1) (c .enum-told2 .given .1))) (stored-same (s .pre .0))
+    updated-as (mark-none _ (a .id .given .1) (i .if1 .left) (slot-found _ (a .id .given .1) (i .if1 .left) (s .pre .1) (c .enum-told2 .given .1))) (updated-same (s .pre .0))
 
 pub mark-dirty-spec : {M : Type 1} → statement M
 mark-dirty-spec =
@@ -73,7 +73,7 @@ mark-dirty-spec =
     enum-told
     count-frame-requires
     enum-known-id
-    slice-write-l
+    slice-write-numbers
     same-length
     returns
     enum-known-slot

@@ -1,5 +1,5 @@
 -- `dirty::mark_dirty_if` meets its contract. Assumes nothing.
-use Rattle.dirty.proofs.Numbers.{due-stored, undue-stored}
+use Rattle.dirty.proofs.Numbers.{due-updated, undue-updated}
 use borrow.Author.Needs.{needs}
 use Rattle.dirty.proofs.mark_dirty_if.Statement.{statement}
 use Rattle.dirty.proofs.mark_dirty_if.Tie as tie
@@ -11,10 +11,10 @@ same-length : tie.Need-same-length
 same-length c = search needs
 
 returns : tie.Need-returns
-returns c = due-stored _ _ (c .before .before .before .before .if1 .taken) (c .before .before .mark-dirty .ensures)
+returns c = due-updated _ _ (c .before .before .before .before .if1 .taken) (c .before .before .mark-dirty .ensures)
 
 returns-2 : tie.Need-returns-2
-returns-2 c = undue-stored _ _ (c .before .before .pre .0) (c .if1 .left)
+returns-2 c = undue-updated _ _ (c .before .before .pre .0) (c .if1 .left)
 
 pub mark-dirty-if-spec : {M : Type 1} → statement M
 mark-dirty-if-spec = tie.close (tie.spec mark-dirty-requires same-length returns returns-2)

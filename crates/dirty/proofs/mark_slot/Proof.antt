@@ -20,14 +20,14 @@ mul-if1 c = omega (arith, room _ (c .pre .0) _ (c .pre .1))
 slice-read-if1 : tie.Need-slice-read-if1
 slice-read-if1 c = omega (arith, room _ (c .before .pre .0) _ (c .before .pre .1))
 
-add-l : tie.Need-add-l
-add-l c = omega (arith, room _ (c .before .before .pre .0) _ (c .before .before .pre .1))
+add-numbers : tie.Need-add-numbers
+add-numbers c = omega (arith, room _ (c .before .before .pre .0) _ (c .before .before .pre .1))
 
-mul-l : tie.Need-mul-l
-mul-l c = omega (arith, room _ (c .before .before .pre .0) _ (c .before .before .pre .1))
+mul-numbers : tie.Need-mul-numbers
+mul-numbers c = omega (arith, room _ (c .before .before .pre .0) _ (c .before .before .pre .1))
 
-slice-write-l : tie.Need-slice-write-l
-slice-write-l c = omega (arith, room _ (c .before .before .pre .0) _ (c .before .before .pre .1))
+slice-write-numbers : tie.Need-slice-write-numbers
+slice-write-numbers c = omega (arith, room _ (c .before .before .pre .0) _ (c .before .before .pre .1))
 
 same-length : tie.Need-same-length
 same-length c = search needs
@@ -47,9 +47,9 @@ mark-slot-spec =
     add-if1
     mul-if1
     slice-read-if1
-    add-l
-    mul-l
-    slice-write-l
+    add-numbers
+    mul-numbers
+    slice-write-numbers
     same-length
     returns
     returns-2)

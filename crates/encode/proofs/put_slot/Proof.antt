@@ -21,17 +21,17 @@ part-put-object-end c = search needs
 put-object-requires : tie.Need-put-object-requires
 put-object-requires c κs = search needs
 
-slice-write-l : tie.Need-slice-write-l
-slice-write-l c = search needs
+slice-write-numbers : tie.Need-slice-write-numbers
+slice-write-numbers c = search needs
 
-slice-write-l-2 : tie.Need-slice-write-l-2
-slice-write-l-2 c = let s = c .before .before .before .before .before in still-long _ (now (s .args .l)) (c .before .before .put-object .last .0) (s .pre) (c .before .before .put-object .kept .0 ∙ length-part (now (s .args .l)) objectPlace objectSize (omega arith))
+slice-write-numbers-2 : tie.Need-slice-write-numbers-2
+slice-write-numbers-2 c = let s = c .before .before .before .before .before in still-long _ (now (s .args .numbers)) (c .before .before .put-object .last .0) (s .pre) (c .before .before .put-object .kept .0 ∙ length-part (now (s .args .numbers)) objectPlace objectSize (omega arith))
 
 same-length : tie.Need-same-length
 same-length c = search needs
 
 returns : tie.Need-returns
-returns c = let s = c .before .before .before .before .before in slot-coded _ (now (s .args .l)) (c .before .before .put-object .last .0) (s .pre) (c .before .before .put-object .kept .0 ∙ length-part (now (s .args .l)) objectPlace objectSize (omega arith)) (c .before .before .put-object .ensures)
+returns c = let s = c .before .before .before .before .before in slot-coded _ (now (s .args .numbers)) (c .before .before .put-object .last .0) (s .pre) (c .before .before .put-object .kept .0 ∙ length-part (now (s .args .numbers)) objectPlace objectSize (omega arith)) (c .before .before .put-object .ensures)
 
 pub put-slot-spec : {M : Type 1} → statement M
 put-slot-spec =
@@ -41,7 +41,7 @@ put-slot-spec =
     part-put-object-start
     part-put-object-end
     put-object-requires
-    slice-write-l
-    slice-write-l-2
+    slice-write-numbers
+    slice-write-numbers-2
     same-length
     returns)

@@ -1,6 +1,6 @@
 -- `encode::unsigned` meets its contract. Assumes nothing.
 use native.Mathlib.Omega.{arith}
-use Rattle.laws.proofs.Machine.{cast-fits}
+use Rattle.arithmetic.proofs.Machine.{cast-fits}
 use Rattle.encode.proofs.Complement.{turned-fits, turned-cast, turned-back, kept-cast, kept-back}
 use Rattle.encode.proofs.unsigned.Statement.{statement}
 use Rattle.encode.proofs.unsigned.Tie as tie

@@ -3,7 +3,7 @@ use mathlib.Core.Path.{_≡_, _∙_}
 use Prim.Native.Nat.{_<_}
 use native.Mathlib.Omega.{arith}
 use borrow.Author.Needs.{needs}
-use Rattle.laws.proofs.Machine.{stored32}
+use Rattle.arithmetic.proofs.Machine.{stored32}
 use Rattle.clip.specs.Clip.{clippedRect}
 use Rattle.fill.proofs.Box.{marked, no-columns-marked, no-rows-marked, columns-fit, rows-fit, no-columns-drawn, no-rows-drawn, box-drawn}
 use Rattle.fill.proofs.fill_box.Statement.{statement}

@@ -5,7 +5,7 @@ use lib.IntN.{ℤ, pos, _+ℤ_, _-ℤ_}
 use mir.Syntax.{w64}
 use mir.Val.{toZ}
 use borrow.Author.Needs.{needs}
-use Rattle.laws.proofs.Machine.{natural64, held32, held64, cast-fits, cast-held, Terms, signed-term, natural-term, sum-terms, difference-terms, terms-fit, terms-held}
+use Rattle.arithmetic.proofs.Machine.{natural64, held32, held64, cast-fits, cast-held, Terms, signed-term, natural-term, sum-terms, difference-terms, terms-fit, terms-held}
 use Rattle.glyph.proofs.Reach.{shown}
 use Rattle.glyph.proofs.cut.Statement.{statement}
 use Rattle.glyph.proofs.cut.Tie as tie

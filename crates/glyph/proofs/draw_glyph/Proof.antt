@@ -9,7 +9,7 @@ use lib.ListN.{length, getD}
 use mir.Syntax.{w32}
 use mir.Val.{toZ}
 use borrow.Author.Needs.{needs}
-use Rattle.laws.proofs.Machine.{held32, stored32}
+use Rattle.arithmetic.proofs.Machine.{held32, stored32}
 use Rattle.words.specs.Words.{painted}
 use Rattle.words.proofs.Painted.{painted-none, painted-again, painted-cong}
 use Rattle.surface.specs.Region.{wordsOf}

@@ -40,17 +40,17 @@ put-slot-requires c κs = search needs
 wrapping-add-u32-requires : tie.Need-wrapping-add-u32-requires
 wrapping-add-u32-requires c κs = search needs
 
-slice-write-l : tie.Need-slice-write-l
-slice-write-l c =
+slice-write-numbers : tie.Need-slice-write-numbers
+slice-write-numbers c =
     let s = c .before .before .before in
     let p = s .before .before .before .before .pre in
     omega (arith, back-long _ (p .0) (p .1) (s .put-slot .last .0) (s .put-slot .kept .0))
 
-add-l : tie.Need-add-l
-add-l c = search needs
+add-numbers : tie.Need-add-numbers
+add-numbers c = search needs
 
-slice-write-l-2 : tie.Need-slice-write-l-2
-slice-write-l-2 c =
+slice-write-numbers-2 : tie.Need-slice-write-numbers-2
+slice-write-numbers-2 c =
     let s = c .before .before .before in
     let p = s .before .before .before .before .pre in
     simp length-set (omega (arith, back-long _ (p .0) (p .1) (s .put-slot .last .0) (s .put-slot .kept .0)))
@@ -79,8 +79,8 @@ append-spec =
     part-put-slot-end
     put-slot-requires
     wrapping-add-u32-requires
-    slice-write-l
-    add-l
-    slice-write-l-2
+    slice-write-numbers
+    add-numbers
+    slice-write-numbers-2
     same-length
     returns)

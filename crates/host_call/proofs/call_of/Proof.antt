@@ -2,7 +2,7 @@
 use native.Mathlib.Omega.{arith}
 use borrow.Author.Tests.{lt-leb, le-leb, ne-eqb}
 use borrow.Author.Needs.{needs}
-use Rattle.laws.proofs.Machine.{stored32}
+use Rattle.arithmetic.proofs.Machine.{stored32}
 use Rattle.host_call.specs.Call.{callOf}
 use Rattle.host_call.proofs.call_of.Statement.{statement}
 use Rattle.host_call.proofs.call_of.Tie as tie

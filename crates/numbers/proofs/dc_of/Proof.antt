@@ -1,6 +1,6 @@
 -- `numbers::dc_of` meets its contract. Assumes nothing.
 use borrow.Author.Needs.{needs}
-use Rattle.numbers.specs.Block.{dcOf}
+use Rattle.numbers.specs.Block.{dcFields}
 use Rattle.numbers.proofs.dc_of.Statement.{statement}
 use Rattle.numbers.proofs.dc_of.Tie as tie
 
@@ -47,7 +47,7 @@ shared-slice-read-t28 : tie.Need-shared-slice-read-t28
 shared-slice-read-t28 c = search needs
 
 returns : tie.Need-returns
-unfolding dcOf
+unfolding dcFields
 returns c = rw (c .before .before .before .before .before .before .before .before .before .before .before .before .surface-of .ensures, c .before .before .before .before .before .before .before .before .before .bitmap-of .ensures)
 
 pub dc-of-spec : {M : Type 1} → statement M

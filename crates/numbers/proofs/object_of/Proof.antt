@@ -2,7 +2,7 @@
 use mathlib.Core.Path.{sym, _∙_, ap}
 use lib.IntN.{ℤ}
 use borrow.Author.Needs.{needs}
-use Rattle.laws.proofs.Machine.{stored32}
+use Rattle.arithmetic.proofs.Machine.{stored32}
 use Rattle.gdi.specs.declared.GdiObject.the-variants.{Font}
 use Rattle.numbers.proofs.Seen.{object-brush, object-pen, object-font}
 use Rattle.numbers.specs.Block.{objectOf}

@@ -41,7 +41,7 @@ returns c =
     let s = p .before .before in
     let a = s .before .before .before in
     let b = a .before .before .before in
-    fresh-put (now (b .args .l)) (a .put-head .last .0) (p .put-dc .last .0) (b .pre) (a .put-head .ensures) (s .screen-dc .ensures) (p .put-dc .kept .0) (p .put-dc .ensures)
+    fresh-put (now (b .args .numbers)) (a .put-head .last .0) (p .put-dc .last .0) (b .pre) (a .put-head .ensures) (s .screen-dc .ensures) (p .put-dc .kept .0) (p .put-dc .ensures)
 
 pub put-fresh-spec : {M : Type 1} → statement M
 put-fresh-spec =

@@ -7,51 +7,51 @@ use borrow.Author.Needs.{needs}
 use Rattle.open.proofs.put_head.Statement.{statement}
 use Rattle.open.proofs.put_head.Tie as tie
 
-slice-write-l : tie.Need-slice-write-l
-slice-write-l c = search needs
+slice-write-numbers : tie.Need-slice-write-numbers
+slice-write-numbers c = search needs
 
-slice-write-l-2 : tie.Need-slice-write-l-2
-slice-write-l-2 c = search needs
+slice-write-numbers-2 : tie.Need-slice-write-numbers-2
+slice-write-numbers-2 c = search needs
 
-slice-write-l-3 : tie.Need-slice-write-l-3
-slice-write-l-3 c = search needs
+slice-write-numbers-3 : tie.Need-slice-write-numbers-3
+slice-write-numbers-3 c = search needs
 
-slice-write-l-4 : tie.Need-slice-write-l-4
-slice-write-l-4 c = search needs
+slice-write-numbers-4 : tie.Need-slice-write-numbers-4
+slice-write-numbers-4 c = search needs
 
-slice-write-l-5 : tie.Need-slice-write-l-5
-slice-write-l-5 c = simp length-set (omega arith)
+slice-write-numbers-5 : tie.Need-slice-write-numbers-5
+slice-write-numbers-5 c = simp length-set (omega arith)
 
-slice-write-l-6 : tie.Need-slice-write-l-6
-slice-write-l-6 c = simp length-set (omega arith)
+slice-write-numbers-6 : tie.Need-slice-write-numbers-6
+slice-write-numbers-6 c = simp length-set (omega arith)
 
-slice-write-l-7 : tie.Need-slice-write-l-7
-slice-write-l-7 c = simp length-set (omega arith)
+slice-write-numbers-7 : tie.Need-slice-write-numbers-7
+slice-write-numbers-7 c = simp length-set (omega arith)
 
-slice-write-l-8 : tie.Need-slice-write-l-8
-slice-write-l-8 c = simp length-set (omega arith)
+slice-write-numbers-8 : tie.Need-slice-write-numbers-8
+slice-write-numbers-8 c = simp length-set (omega arith)
 
-slice-write-l-9 : tie.Need-slice-write-l-9
-slice-write-l-9 c = simp length-set (omega arith)
+slice-write-numbers-9 : tie.Need-slice-write-numbers-9
+slice-write-numbers-9 c = simp length-set (omega arith)
 
 same-length : tie.Need-same-length
 same-length c = search needs
 
 returns : tie.Need-returns
-returns c = all-stored (c .args .l .now) (c .args .panel-len ∷ c .args .store-len ∷ c .args .width ∷ c .args .height ∷ 0 ∷ 0 ∷ 0xDEAD_1000 ∷ 0 ∷ 0 ∷ []) (c .pre)
+returns c = all-stored (c .args .numbers .now) (c .args .panel-len ∷ c .args .store-len ∷ c .args .width ∷ c .args .height ∷ 0 ∷ 0 ∷ 0xDEAD_1000 ∷ 0 ∷ 0 ∷ []) (c .pre)
 
 pub put-head-spec : {M : Type 1} → statement M
 put-head-spec =
     tie.close
     (tie.spec
-    slice-write-l
-    slice-write-l-2
-    slice-write-l-3
-    slice-write-l-4
-    slice-write-l-5
-    slice-write-l-6
-    slice-write-l-7
-    slice-write-l-8
-    slice-write-l-9
+    slice-write-numbers
+    slice-write-numbers-2
+    slice-write-numbers-3
+    slice-write-numbers-4
+    slice-write-numbers-5
+    slice-write-numbers-6
+    slice-write-numbers-7
+    slice-write-numbers-8
+    slice-write-numbers-9
     same-length
     returns)

@@ -3,7 +3,7 @@ use mathlib.Core.Path.{_≡_}
 use native.Mathlib.Omega.{arith}
 use lib.IntN.{ℤ, pos, _+ℤ_, _-ℤ_}
 use borrow.Author.Needs.{needs}
-use Rattle.laws.proofs.Machine.{held32, held64, cast-fits, cast-held, Terms, signed-term, natural-term, sum-terms, difference-terms, terms-fit, terms-held}
+use Rattle.arithmetic.proofs.Machine.{held32, held64, cast-fits, cast-held, Terms, signed-term, natural-term, sum-terms, difference-terms, terms-fit, terms-held}
 use Rattle.outline.specs.Inner.{edgesOf}
 use Rattle.outline.proofs.edges_of.Statement.{statement}
 use Rattle.outline.proofs.edges_of.Tie as tie

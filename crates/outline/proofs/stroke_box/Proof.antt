@@ -4,9 +4,9 @@ use mathlib.Core.Bool.{true, false}
 use lib.IntN.{pos}
 use lib.Signed.{leZ, ltZ}
 use borrow.Author.Needs.{needs}
-use Rattle.laws.proofs.Integer.{not-positive, is-positive}
-use Rattle.laws.proofs.Machine.{stored32}
-use Rattle.laws.proofs.Test.{together, not-left, not-right}
+use Rattle.arithmetic.proofs.Integer.{not-positive, is-positive}
+use Rattle.arithmetic.proofs.Machine.{stored32}
+use Rattle.arithmetic.proofs.Test.{together, not-left, not-right}
 use Rattle.outline.specs.Inner.{edgesOf}
 use Rattle.outline.proofs.Box.{no-width-outlined, no-height-outlined, columns-ordered, second-fits, to-fits, sides-outlined}
 use Rattle.outline.proofs.stroke_box.Statement.{statement}

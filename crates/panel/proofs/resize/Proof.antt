@@ -23,14 +23,14 @@ returns : tie.Need-returns
 returns c =
     let n = c .before in
     let s = n .before .before .before .before .before in
-    λ store. acceptance-same (s .pre .is-record) refl (same-size _ _ _ (effect-seen (s .args .l .now) (s .args .width) (s .args .height) (n .no-effect .ensures)) (c .if1 .taken))
+    λ store. acceptance-same (s .pre .is-record) refl (same-size _ _ _ (effect-seen (s .args .numbers .now) (s .args .width) (s .args .height) (n .no-effect .ensures)) (c .if1 .taken))
 
 returns-2 : tie.Need-returns-2
 returns-2 c =
     let i = c .before in
     let n = i .before in
     let s = n .before .before .before .before .before in
-    λ store. refusal (s .pre .is-record) (too-wide _ _ _ (effect-seen (s .args .l .now) (s .args .width) (s .args .height) (n .no-effect .ensures)) (i .if1 .left) (c .if2 .taken))
+    λ store. refusal (s .pre .is-record) (too-wide _ _ _ (effect-seen (s .args .numbers .now) (s .args .width) (s .args .height) (n .no-effect .ensures)) (i .if1 .left) (c .if2 .taken))
 
 returns-3 : tie.Need-returns-3
 returns-3 c =
@@ -38,7 +38,7 @@ returns-3 c =
     let a = i .before in
     let n = a .before in
     let s = n .before .before .before .before .before in
-    λ store. refusal (s .pre .is-record) (too-high _ _ _ (effect-seen (s .args .l .now) (s .args .width) (s .args .height) (n .no-effect .ensures)) (a .if1 .left) (i .if2 .left) (c .if3 .taken))
+    λ store. refusal (s .pre .is-record) (too-high _ _ _ (effect-seen (s .args .numbers .now) (s .args .width) (s .args .height) (n .no-effect .ensures)) (a .if1 .left) (i .if2 .left) (c .if3 .taken))
 
 mul-n : tie.Need-mul-n
 mul-n c = omega (arith, area (c .before .if2 .left) (c .if3 .left))
@@ -62,18 +62,18 @@ returns-4 c =
     let b = a .before in
     let n = b .before in
     let s = n .before .before .before .before .before in
-    λ store. refusal (s .pre .is-record) (too-short _ _ _ (effect-seen (s .args .l .now) (s .args .width) (s .args .height) (n .no-effect .ensures)) (b .if1 .left) (a .if2 .left) (i .if3 .left) (omega (arith, panel-len-seen (s .args .l .now), c .if4 .taken)))
+    λ store. refusal (s .pre .is-record) (too-short _ _ _ (effect-seen (s .args .numbers .now) (s .args .width) (s .args .height) (n .no-effect .ensures)) (b .if1 .left) (a .if2 .left) (i .if3 .left) (omega (arith, panel-len-seen (s .args .numbers .now), c .if4 .taken)))
 
 zero-requires : tie.Need-zero-requires
 zero-requires c κs =
     let s = c .before .before .before .before .before .before .before .before .before .before .before in
-    omega (arith, panel-len-seen (s .args .l .now), s .pre .ready .panel)
+    omega (arith, panel-len-seen (s .args .numbers .now), s .pre .ready .panel)
 
-store-sides-requires : tie.Need-store-sides-requires
-store-sides-requires c κs = search needs
+set-sides-requires : tie.Need-set-sides-requires
+set-sides-requires c κs = search needs
 
 mark-dirty-requires : tie.Need-mark-dirty-requires
-mark-dirty-requires c κs = (c .before .before .before .store-sides .ensures .is-record, refl)
+mark-dirty-requires c κs = (c .before .before .before .set-sides .ensures .is-record, refl)
 
 same-length : tie.Need-same-length
 same-length c = search needs
@@ -92,8 +92,8 @@ returns-5 c =
     let d = b .before in
     let n = d .before in
     let e = n .before .before .before .before .before in
-    sized (e .args .l .now) _ _ (new-size _ _ _ (effect-seen (e .args .l .now) (e .args .width) (e .args .height) (n .no-effect .ensures)) (d .if1 .left) (b .if2 .left) (a .if3 .left) (omega (arith, panel-len-seen (e .args .l .now), i .if4 .left)))
-    (z .zero .ensures) (sized-marked _ _ (s .store-sides .ensures) (m .mark-dirty .ensures))
+    sized (e .args .numbers .now) _ _ (new-size _ _ _ (effect-seen (e .args .numbers .now) (e .args .width) (e .args .height) (n .no-effect .ensures)) (d .if1 .left) (b .if2 .left) (a .if3 .left) (omega (arith, panel-len-seen (e .args .numbers .now), i .if4 .left)))
+    (z .zero .ensures) (sized-marked _ _ (s .set-sides .ensures) (m .mark-dirty .ensures))
 
 pub resize-spec : {M : Type 1} → statement M
 resize-spec =
@@ -112,7 +112,7 @@ resize-spec =
     cast-if4
     returns-4
     zero-requires
-    store-sides-requires
+    set-sides-requires
     mark-dirty-requires
     same-length
     same-length-2

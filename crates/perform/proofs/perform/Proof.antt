@@ -1,6 +1,6 @@
 -- `perform::perform` meets its contract. Assumes nothing.
 use denote.Ref.{now}
-use Rattle.laws.proofs.Machine.{stored32}
+use Rattle.arithmetic.proofs.Machine.{stored32}
 use Rattle.ready.proofs.Ready.{store-lent, panel-lent, record-lent}
 use Rattle.paint.specs.Memories.{memories}
 use Rattle.plan.specs.Calls.{act}
@@ -19,7 +19,7 @@ returns : tie.Need-returns
 returns c =
     let a = c .before in
     let s = a .before .before .before .before .before .before in
-    refused-all (s .args .call) (now (s .args .units)) (now (s .args .l)) (memories (now (s .args .panel)) (now (s .args .store))) (a .common-refusal .ensures) (c .if1 .taken)
+    refused-all (s .args .call) (now (s .args .units)) (now (s .args .numbers)) (memories (now (s .args .panel)) (now (s .args .store))) (a .common-refusal .ensures) (c .if1 .taken)
 
 enum-told : tie.Need-enum-told
 enum-told c = search needs
@@ -29,7 +29,7 @@ create-memory-dc-requires c κs =
     let i = c .before .before .before .before in
     let a = i .before in
     let s = a .before .before .before .before .before .before in
-    store-lent (is-lent (s .args .call) (now (s .args .units)) (now (s .args .l)) (memories (now (s .args .panel)) (now (s .args .store))) (a .common-refusal .ensures) (i .if1 .left))
+    store-lent (is-lent (s .args .call) (now (s .args .units)) (now (s .args .numbers)) (memories (now (s .args .panel)) (now (s .args .store))) (a .common-refusal .ensures) (i .if1 .left))
 
 enum-known-call : tie.Need-enum-known-call
 enum-known-call c = search needs
@@ -39,7 +39,7 @@ create-compatible-bitmap-requires c κs =
     let i = c .before .before .before .before .before in
     let a = i .before in
     let s = a .before .before .before .before .before .before in
-    store-lent (is-lent (s .args .call) (now (s .args .units)) (now (s .args .l)) (memories (now (s .args .panel)) (now (s .args .store))) (a .common-refusal .ensures) (i .if1 .left))
+    store-lent (is-lent (s .args .call) (now (s .args .units)) (now (s .args .numbers)) (memories (now (s .args .panel)) (now (s .args .store))) (a .common-refusal .ensures) (i .if1 .left))
 
 enum-known-call-2 : tie.Need-enum-known-call-2
 enum-known-call-2 c = search needs
@@ -49,7 +49,7 @@ create-solid-brush-requires c κs =
     let i = c .before .before .before .before .before in
     let a = i .before in
     let s = a .before .before .before .before .before .before in
-    store-lent (is-lent (s .args .call) (now (s .args .units)) (now (s .args .l)) (memories (now (s .args .panel)) (now (s .args .store))) (a .common-refusal .ensures) (i .if1 .left))
+    store-lent (is-lent (s .args .call) (now (s .args .units)) (now (s .args .numbers)) (memories (now (s .args .panel)) (now (s .args .store))) (a .common-refusal .ensures) (i .if1 .left))
 
 enum-known-call-3 : tie.Need-enum-known-call-3
 enum-known-call-3 c = search needs
@@ -59,7 +59,7 @@ create-pen-requires c κs =
     let i = c .before .before .before .before .before in
     let a = i .before in
     let s = a .before .before .before .before .before .before in
-    store-lent (is-lent (s .args .call) (now (s .args .units)) (now (s .args .l)) (memories (now (s .args .panel)) (now (s .args .store))) (a .common-refusal .ensures) (i .if1 .left))
+    store-lent (is-lent (s .args .call) (now (s .args .units)) (now (s .args .numbers)) (memories (now (s .args .panel)) (now (s .args .store))) (a .common-refusal .ensures) (i .if1 .left))
 
 enum-known-call-4 : tie.Need-enum-known-call-4
 enum-known-call-4 c = search needs
@@ -69,7 +69,7 @@ create-font-requires c κs =
     let i = c .before .before .before .before .before in
     let a = i .before in
     let s = a .before .before .before .before .before .before in
-    store-lent (is-lent (s .args .call) (now (s .args .units)) (now (s .args .l)) (memories (now (s .args .panel)) (now (s .args .store))) (a .common-refusal .ensures) (i .if1 .left))
+    store-lent (is-lent (s .args .call) (now (s .args .units)) (now (s .args .numbers)) (memories (now (s .args .panel)) (now (s .args .store))) (a .common-refusal .ensures) (i .if1 .left))
 
 enum-known-call-5 : tie.Need-enum-known-call-5
 enum-known-call-5 c = search needs
@@ -79,7 +79,7 @@ delete-requires c κs =
     let i = c .before .before .before .before .before in
     let a = i .before in
     let s = a .before .before .before .before .before .before in
-    store-lent (is-lent (s .args .call) (now (s .args .units)) (now (s .args .l)) (memories (now (s .args .panel)) (now (s .args .store))) (a .common-refusal .ensures) (i .if1 .left))
+    store-lent (is-lent (s .args .call) (now (s .args .units)) (now (s .args .numbers)) (memories (now (s .args .panel)) (now (s .args .store))) (a .common-refusal .ensures) (i .if1 .left))
 
 enum-known-call-6 : tie.Need-enum-known-call-6
 enum-known-call-6 c = search needs
@@ -89,7 +89,7 @@ remove-requires c κs =
     let i = c .before .before .before .before .before in
     let a = i .before in
     let s = a .before .before .before .before .before .before in
-    store-lent (is-lent (s .args .call) (now (s .args .units)) (now (s .args .l)) (memories (now (s .args .panel)) (now (s .args .store))) (a .common-refusal .ensures) (i .if1 .left))
+    store-lent (is-lent (s .args .call) (now (s .args .units)) (now (s .args .numbers)) (memories (now (s .args .panel)) (now (s .args .store))) (a .common-refusal .ensures) (i .if1 .left))
 
 enum-known-call-7 : tie.Need-enum-known-call-7
 enum-known-call-7 c = search needs
@@ -99,7 +99,7 @@ select-into-requires c κs =
     let i = c .before .before .before .before in
     let a = i .before in
     let s = a .before .before .before .before .before .before in
-    record-lent (is-lent (s .args .call) (now (s .args .units)) (now (s .args .l)) (memories (now (s .args .panel)) (now (s .args .store))) (a .common-refusal .ensures) (i .if1 .left))
+    record-lent (is-lent (s .args .call) (now (s .args .units)) (now (s .args .numbers)) (memories (now (s .args .panel)) (now (s .args .store))) (a .common-refusal .ensures) (i .if1 .left))
 
 enum-known-call-8 : tie.Need-enum-known-call-8
 enum-known-call-8 c = search needs
@@ -109,7 +109,7 @@ set-text-color-requires c κs =
     let i = c .before .before .before .before in
     let a = i .before in
     let s = a .before .before .before .before .before .before in
-    record-lent (is-lent (s .args .call) (now (s .args .units)) (now (s .args .l)) (memories (now (s .args .panel)) (now (s .args .store))) (a .common-refusal .ensures) (i .if1 .left))
+    record-lent (is-lent (s .args .call) (now (s .args .units)) (now (s .args .numbers)) (memories (now (s .args .panel)) (now (s .args .store))) (a .common-refusal .ensures) (i .if1 .left))
 
 enum-known-call-9 : tie.Need-enum-known-call-9
 enum-known-call-9 c = search needs
@@ -119,7 +119,7 @@ set-text-align-requires c κs =
     let i = c .before .before .before .before in
     let a = i .before in
     let s = a .before .before .before .before .before .before in
-    record-lent (is-lent (s .args .call) (now (s .args .units)) (now (s .args .l)) (memories (now (s .args .panel)) (now (s .args .store))) (a .common-refusal .ensures) (i .if1 .left))
+    record-lent (is-lent (s .args .call) (now (s .args .units)) (now (s .args .numbers)) (memories (now (s .args .panel)) (now (s .args .store))) (a .common-refusal .ensures) (i .if1 .left))
 
 enum-known-call-10 : tie.Need-enum-known-call-10
 enum-known-call-10 c = search needs
@@ -129,7 +129,7 @@ set-bk-color-requires c κs =
     let i = c .before .before .before .before in
     let a = i .before in
     let s = a .before .before .before .before .before .before in
-    record-lent (is-lent (s .args .call) (now (s .args .units)) (now (s .args .l)) (memories (now (s .args .panel)) (now (s .args .store))) (a .common-refusal .ensures) (i .if1 .left))
+    record-lent (is-lent (s .args .call) (now (s .args .units)) (now (s .args .numbers)) (memories (now (s .args .panel)) (now (s .args .store))) (a .common-refusal .ensures) (i .if1 .left))
 
 enum-known-call-11 : tie.Need-enum-known-call-11
 enum-known-call-11 c = search needs
@@ -139,7 +139,7 @@ set-bk-mode-requires c κs =
     let i = c .before .before .before .before in
     let a = i .before in
     let s = a .before .before .before .before .before .before in
-    record-lent (is-lent (s .args .call) (now (s .args .units)) (now (s .args .l)) (memories (now (s .args .panel)) (now (s .args .store))) (a .common-refusal .ensures) (i .if1 .left))
+    record-lent (is-lent (s .args .call) (now (s .args .units)) (now (s .args .numbers)) (memories (now (s .args .panel)) (now (s .args .store))) (a .common-refusal .ensures) (i .if1 .left))
 
 enum-known-call-12 : tie.Need-enum-known-call-12
 enum-known-call-12 c = search needs
@@ -149,7 +149,7 @@ pattern-fill-requires c κs =
     let i = c .before .before .before .before .before .before in
     let a = i .before in
     let s = a .before .before .before .before .before .before in
-    (is-lent (s .args .call) (now (s .args .units)) (now (s .args .l)) (memories (now (s .args .panel)) (now (s .args .store))) (a .common-refusal .ensures) (i .if1 .left))
+    (is-lent (s .args .call) (now (s .args .units)) (now (s .args .numbers)) (memories (now (s .args .panel)) (now (s .args .store))) (a .common-refusal .ensures) (i .if1 .left))
 
 enum-known-call-13 : tie.Need-enum-known-call-13
 enum-known-call-13 c = search needs
@@ -159,7 +159,7 @@ rectangle-requires c κs =
     let i = c .before .before .before .before .before .before in
     let a = i .before in
     let s = a .before .before .before .before .before .before in
-    (is-lent (s .args .call) (now (s .args .units)) (now (s .args .l)) (memories (now (s .args .panel)) (now (s .args .store))) (a .common-refusal .ensures) (i .if1 .left))
+    (is-lent (s .args .call) (now (s .args .units)) (now (s .args .numbers)) (memories (now (s .args .panel)) (now (s .args .store))) (a .common-refusal .ensures) (i .if1 .left))
 
 enum-known-call-14 : tie.Need-enum-known-call-14
 enum-known-call-14 c = search needs
@@ -169,7 +169,7 @@ text-out-requires c κs =
     let i = c .before .before .before .before .before .before in
     let a = i .before in
     let s = a .before .before .before .before .before .before in
-    (is-lent (s .args .call) (now (s .args .units)) (now (s .args .l)) (memories (now (s .args .panel)) (now (s .args .store))) (a .common-refusal .ensures) (i .if1 .left))
+    (is-lent (s .args .call) (now (s .args .units)) (now (s .args .numbers)) (memories (now (s .args .panel)) (now (s .args .store))) (a .common-refusal .ensures) (i .if1 .left))
 
 enum-known-call-15 : tie.Need-enum-known-call-15
 enum-known-call-15 c = search needs
@@ -179,7 +179,7 @@ fill-requires c κs =
     let i = c .before .before .before .before .before in
     let a = i .before in
     let s = a .before .before .before .before .before .before in
-    panel-lent (is-lent (s .args .call) (now (s .args .units)) (now (s .args .l)) (memories (now (s .args .panel)) (now (s .args .store))) (a .common-refusal .ensures) (i .if1 .left))
+    panel-lent (is-lent (s .args .call) (now (s .args .units)) (now (s .args .numbers)) (memories (now (s .args .panel)) (now (s .args .store))) (a .common-refusal .ensures) (i .if1 .left))
 
 enum-known-call-16 : tie.Need-enum-known-call-16
 enum-known-call-16 c = search needs
@@ -189,7 +189,7 @@ resize-requires c κs =
     let i = c .before .before .before .before .before in
     let a = i .before in
     let s = a .before .before .before .before .before .before in
-    panel-lent (is-lent (s .args .call) (now (s .args .units)) (now (s .args .l)) (memories (now (s .args .panel)) (now (s .args .store))) (a .common-refusal .ensures) (i .if1 .left))
+    panel-lent (is-lent (s .args .call) (now (s .args .units)) (now (s .args .numbers)) (memories (now (s .args .panel)) (now (s .args .store))) (a .common-refusal .ensures) (i .if1 .left))
 
 enum-known-call-17 : tie.Need-enum-known-call-17
 enum-known-call-17 c = search needs
@@ -199,7 +199,7 @@ blit-requires c κs =
     let i = c .before .before .before .before .before .before in
     let a = i .before in
     let s = a .before .before .before .before .before .before in
-    (is-lent (s .args .call) (now (s .args .units)) (now (s .args .l)) (memories (now (s .args .panel)) (now (s .args .store))) (a .common-refusal .ensures) (i .if1 .left))
+    (is-lent (s .args .call) (now (s .args .units)) (now (s .args .numbers)) (memories (now (s .args .panel)) (now (s .args .store))) (a .common-refusal .ensures) (i .if1 .left))
 
 same-length-2 : tie.Need-same-length-2
 same-length-2 c = search needs
@@ -215,7 +215,7 @@ returns-2 c =
     let i = e .before .before in
     let b = i .before in
     let s = b .before .before .before .before .before .before in
-    performed (s .args .call) (now (s .args .units)) (now (s .args .l)) (memories (now (s .args .panel)) (now (s .args .store))) (b .common-refusal .ensures) (i .if1 .left) (e .enum-told .given .1) (a .create-memory-dc .ensures (now (s .args .panel)))
+    performed (s .args .call) (now (s .args .units)) (now (s .args .numbers)) (memories (now (s .args .panel)) (now (s .args .store))) (b .common-refusal .ensures) (i .if1 .left) (e .enum-told .given .1) (a .create-memory-dc .ensures (now (s .args .panel)))
 
 same-length-4 : tie.Need-same-length-4
 same-length-4 c = search needs
@@ -231,7 +231,7 @@ returns-3 c =
     let i = b .before .before in
     let d = i .before in
     let s = d .before .before .before .before .before .before in
-    performed (s .args .call) (now (s .args .units)) (now (s .args .l)) (memories (now (s .args .panel)) (now (s .args .store))) (d .common-refusal .ensures) (i .if1 .left) (b .call .given .1) (a .create-compatible-bitmap .ensures (now (s .args .panel)))
+    performed (s .args .call) (now (s .args .units)) (now (s .args .numbers)) (memories (now (s .args .panel)) (now (s .args .store))) (d .common-refusal .ensures) (i .if1 .left) (b .call .given .1) (a .create-compatible-bitmap .ensures (now (s .args .panel)))
 
 same-length-6 : tie.Need-same-length-6
 same-length-6 c = search needs
@@ -247,7 +247,7 @@ returns-4 c =
     let i = b .before .before in
     let d = i .before in
     let s = d .before .before .before .before .before .before in
-    performed (s .args .call) (now (s .args .units)) (now (s .args .l)) (memories (now (s .args .panel)) (now (s .args .store))) (d .common-refusal .ensures) (i .if1 .left) (b .call2 .given .1) (a .create-solid-brush .ensures (now (s .args .panel)))
+    performed (s .args .call) (now (s .args .units)) (now (s .args .numbers)) (memories (now (s .args .panel)) (now (s .args .store))) (d .common-refusal .ensures) (i .if1 .left) (b .call2 .given .1) (a .create-solid-brush .ensures (now (s .args .panel)))
 
 same-length-8 : tie.Need-same-length-8
 same-length-8 c = search needs
@@ -263,7 +263,7 @@ returns-5 c =
     let i = b .before .before in
     let d = i .before in
     let s = d .before .before .before .before .before .before in
-    performed (s .args .call) (now (s .args .units)) (now (s .args .l)) (memories (now (s .args .panel)) (now (s .args .store))) (d .common-refusal .ensures) (i .if1 .left) (b .call3 .given .1) (a .create-pen .ensures (now (s .args .panel)))
+    performed (s .args .call) (now (s .args .units)) (now (s .args .numbers)) (memories (now (s .args .panel)) (now (s .args .store))) (d .common-refusal .ensures) (i .if1 .left) (b .call3 .given .1) (a .create-pen .ensures (now (s .args .panel)))
 
 same-length-10 : tie.Need-same-length-10
 same-length-10 c = search needs
@@ -280,7 +280,7 @@ returns-6 c =
     let i = b .before .before in
     let d = i .before in
     let s = d .before .before .before .before .before .before in
-    performed (s .args .call) (now (s .args .units)) (now (s .args .l)) (memories (now (s .args .panel)) (now (s .args .store))) (d .common-refusal .ensures) (i .if1 .left) (b .call4 .given .1) (rw (stored32 (b .call4 .given .0 .0) (record { sfits = k .known-told4 .given .0 .1 })) at (a .create-font .ensures (now (s .args .panel))))
+    performed (s .args .call) (now (s .args .units)) (now (s .args .numbers)) (memories (now (s .args .panel)) (now (s .args .store))) (d .common-refusal .ensures) (i .if1 .left) (b .call4 .given .1) (rw (stored32 (b .call4 .given .0 .0) (record { sfits = k .known-told4 .given .0 .1 })) at (a .create-font .ensures (now (s .args .panel))))
 
 same-length-12 : tie.Need-same-length-12
 same-length-12 c = search needs
@@ -296,7 +296,7 @@ returns-7 c =
     let i = a .before .before in
     let b = i .before in
     let s = b .before .before .before .before .before .before in
-    performed (s .args .call) (now (s .args .units)) (now (s .args .l)) (memories (now (s .args .panel)) (now (s .args .store))) (b .common-refusal .ensures) (i .if1 .left) (a .call5 .given .1) (d .delete .ensures (now (s .args .panel)))
+    performed (s .args .call) (now (s .args .units)) (now (s .args .numbers)) (memories (now (s .args .panel)) (now (s .args .store))) (b .common-refusal .ensures) (i .if1 .left) (a .call5 .given .1) (d .delete .ensures (now (s .args .panel)))
 
 same-length-14 : tie.Need-same-length-14
 same-length-14 c = search needs
@@ -312,7 +312,7 @@ returns-8 c =
     let i = a .before .before in
     let b = i .before in
     let s = b .before .before .before .before .before .before in
-    performed (s .args .call) (now (s .args .units)) (now (s .args .l)) (memories (now (s .args .panel)) (now (s .args .store))) (b .common-refusal .ensures) (i .if1 .left) (a .call6 .given .1) (r .remove .ensures (now (s .args .panel)))
+    performed (s .args .call) (now (s .args .units)) (now (s .args .numbers)) (memories (now (s .args .panel)) (now (s .args .store))) (b .common-refusal .ensures) (i .if1 .left) (a .call6 .given .1) (r .remove .ensures (now (s .args .panel)))
 
 same-length-16 : tie.Need-same-length-16
 same-length-16 c = search needs
@@ -325,7 +325,7 @@ returns-9 c =
     let i = a .before .before in
     let b = i .before in
     let d = b .before .before .before .before .before .before in
-    performed (d .args .call) (now (d .args .units)) (now (d .args .l)) (memories (now (d .args .panel)) (now (d .args .store))) (b .common-refusal .ensures) (i .if1 .left) (a .call7 .given .1) (s .select-into .ensures (memories (now (d .args .panel)) (now (d .args .store))))
+    performed (d .args .call) (now (d .args .units)) (now (d .args .numbers)) (memories (now (d .args .panel)) (now (d .args .store))) (b .common-refusal .ensures) (i .if1 .left) (a .call7 .given .1) (s .select-into .ensures (memories (now (d .args .panel)) (now (d .args .store))))
 
 same-length-17 : tie.Need-same-length-17
 same-length-17 c = search needs
@@ -338,7 +338,7 @@ returns-10 c =
     let i = a .before .before in
     let b = i .before in
     let d = b .before .before .before .before .before .before in
-    performed (d .args .call) (now (d .args .units)) (now (d .args .l)) (memories (now (d .args .panel)) (now (d .args .store))) (b .common-refusal .ensures) (i .if1 .left) (a .call8 .given .1) (s .set-text-color .ensures (memories (now (d .args .panel)) (now (d .args .store))))
+    performed (d .args .call) (now (d .args .units)) (now (d .args .numbers)) (memories (now (d .args .panel)) (now (d .args .store))) (b .common-refusal .ensures) (i .if1 .left) (a .call8 .given .1) (s .set-text-color .ensures (memories (now (d .args .panel)) (now (d .args .store))))
 
 same-length-18 : tie.Need-same-length-18
 same-length-18 c = search needs
@@ -351,7 +351,7 @@ returns-11 c =
     let i = a .before .before in
     let b = i .before in
     let d = b .before .before .before .before .before .before in
-    performed (d .args .call) (now (d .args .units)) (now (d .args .l)) (memories (now (d .args .panel)) (now (d .args .store))) (b .common-refusal .ensures) (i .if1 .left) (a .call9 .given .1) (s .set-text-align .ensures (memories (now (d .args .panel)) (now (d .args .store))))
+    performed (d .args .call) (now (d .args .units)) (now (d .args .numbers)) (memories (now (d .args .panel)) (now (d .args .store))) (b .common-refusal .ensures) (i .if1 .left) (a .call9 .given .1) (s .set-text-align .ensures (memories (now (d .args .panel)) (now (d .args .store))))
 
 same-length-19 : tie.Need-same-length-19
 same-length-19 c = search needs
@@ -364,7 +364,7 @@ returns-12 c =
     let i = a .before .before in
     let b = i .before in
     let d = b .before .before .before .before .before .before in
-    performed (d .args .call) (now (d .args .units)) (now (d .args .l)) (memories (now (d .args .panel)) (now (d .args .store))) (b .common-refusal .ensures) (i .if1 .left) (a .call10 .given .1) (s .set-bk-color .ensures (memories (now (d .args .panel)) (now (d .args .store))))
+    performed (d .args .call) (now (d .args .units)) (now (d .args .numbers)) (memories (now (d .args .panel)) (now (d .args .store))) (b .common-refusal .ensures) (i .if1 .left) (a .call10 .given .1) (s .set-bk-color .ensures (memories (now (d .args .panel)) (now (d .args .store))))
 
 same-length-20 : tie.Need-same-length-20
 same-length-20 c = search needs
@@ -377,7 +377,7 @@ returns-13 c =
     let i = a .before .before in
     let b = i .before in
     let d = b .before .before .before .before .before .before in
-    performed (d .args .call) (now (d .args .units)) (now (d .args .l)) (memories (now (d .args .panel)) (now (d .args .store))) (b .common-refusal .ensures) (i .if1 .left) (a .call11 .given .1) (s .set-bk-mode .ensures (memories (now (d .args .panel)) (now (d .args .store))))
+    performed (d .args .call) (now (d .args .units)) (now (d .args .numbers)) (memories (now (d .args .panel)) (now (d .args .store))) (b .common-refusal .ensures) (i .if1 .left) (a .call11 .given .1) (s .set-bk-mode .ensures (memories (now (d .args .panel)) (now (d .args .store))))
 
 same-length-21 : tie.Need-same-length-21
 same-length-21 c = search needs
@@ -396,7 +396,7 @@ returns-14 c =
     let i = a .before .before in
     let b = i .before in
     let s = b .before .before .before .before .before .before in
-    performed (s .args .call) (now (s .args .units)) (now (s .args .l)) (memories (now (s .args .panel)) (now (s .args .store))) (b .common-refusal .ensures) (i .if1 .left) (a .call12 .given .1) (p .pattern-fill .ensures)
+    performed (s .args .call) (now (s .args .units)) (now (s .args .numbers)) (memories (now (s .args .panel)) (now (s .args .store))) (b .common-refusal .ensures) (i .if1 .left) (a .call12 .given .1) (p .pattern-fill .ensures)
 
 same-length-24 : tie.Need-same-length-24
 same-length-24 c = search needs
@@ -415,7 +415,7 @@ returns-15 c =
     let i = a .before .before in
     let b = i .before in
     let s = b .before .before .before .before .before .before in
-    performed (s .args .call) (now (s .args .units)) (now (s .args .l)) (memories (now (s .args .panel)) (now (s .args .store))) (b .common-refusal .ensures) (i .if1 .left) (a .call13 .given .1) (r .rectangle .ensures)
+    performed (s .args .call) (now (s .args .units)) (now (s .args .numbers)) (memories (now (s .args .panel)) (now (s .args .store))) (b .common-refusal .ensures) (i .if1 .left) (a .call13 .given .1) (r .rectangle .ensures)
 
 same-length-27 : tie.Need-same-length-27
 same-length-27 c = search needs
@@ -434,7 +434,7 @@ returns-16 c =
     let i = a .before .before in
     let b = i .before in
     let s = b .before .before .before .before .before .before in
-    performed (s .args .call) (now (s .args .units)) (now (s .args .l)) (memories (now (s .args .panel)) (now (s .args .store))) (b .common-refusal .ensures) (i .if1 .left) (a .call14 .given .1) (t .text-out .ensures)
+    performed (s .args .call) (now (s .args .units)) (now (s .args .numbers)) (memories (now (s .args .panel)) (now (s .args .store))) (b .common-refusal .ensures) (i .if1 .left) (a .call14 .given .1) (t .text-out .ensures)
 
 same-length-30 : tie.Need-same-length-30
 same-length-30 c = search needs
@@ -450,7 +450,7 @@ returns-17 c =
     let i = a .before .before in
     let b = i .before in
     let s = b .before .before .before .before .before .before in
-    performed (s .args .call) (now (s .args .units)) (now (s .args .l)) (memories (now (s .args .panel)) (now (s .args .store))) (b .common-refusal .ensures) (i .if1 .left) (a .call15 .given .1) (f .fill .ensures (now (s .args .store)))
+    performed (s .args .call) (now (s .args .units)) (now (s .args .numbers)) (memories (now (s .args .panel)) (now (s .args .store))) (b .common-refusal .ensures) (i .if1 .left) (a .call15 .given .1) (f .fill .ensures (now (s .args .store)))
 
 same-length-32 : tie.Need-same-length-32
 same-length-32 c = search needs
@@ -466,7 +466,7 @@ returns-18 c =
     let i = a .before .before in
     let b = i .before in
     let s = b .before .before .before .before .before .before in
-    performed (s .args .call) (now (s .args .units)) (now (s .args .l)) (memories (now (s .args .panel)) (now (s .args .store))) (b .common-refusal .ensures) (i .if1 .left) (a .call16 .given .1) (r .resize .ensures (now (s .args .store)))
+    performed (s .args .call) (now (s .args .units)) (now (s .args .numbers)) (memories (now (s .args .panel)) (now (s .args .store))) (b .common-refusal .ensures) (i .if1 .left) (a .call16 .given .1) (r .resize .ensures (now (s .args .store)))
 
 same-length-34 : tie.Need-same-length-34
 same-length-34 c = search needs
@@ -485,7 +485,7 @@ returns-19 c =
     let i = a .before .before in
     let d = i .before in
     let s = d .before .before .before .before .before .before in
-    performed (s .args .call) (now (s .args .units)) (now (s .args .l)) (memories (now (s .args .panel)) (now (s .args .store))) (d .common-refusal .ensures) (i .if1 .left) (a .call17 .given .1) (b .blit .ensures)
+    performed (s .args .call) (now (s .args .units)) (now (s .args .numbers)) (memories (now (s .args .panel)) (now (s .args .store))) (d .common-refusal .ensures) (i .if1 .left) (a .call17 .given .1) (b .blit .ensures)
 
 pub perform-spec : {M : Type 1} → statement M
 perform-spec =

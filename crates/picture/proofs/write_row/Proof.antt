@@ -3,7 +3,7 @@ use mathlib.Core.Path.{_≡_, sym}
 use Prim.Native.Nat.{_-_, _≤_}
 use lib.ListN.{length}
 use borrow.Author.Needs.{needs}
-use Rattle.laws.proofs.Arrays.{zeros}
+use Rattle.arithmetic.proofs.Arrays.{zeros}
 use Rattle.picture.proofs.write_row.Statement.{statement}
 use Rattle.picture.proofs.write_row.Tie as tie
 

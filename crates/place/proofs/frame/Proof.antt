@@ -14,7 +14,7 @@ shared-slice-read-if1 : tie.Need-shared-slice-read-if1
 shared-slice-read-if1 c = search needs
 
 returns : tie.Need-returns
-returns c = frame-other (c .before .before .args .l .now) (c .before .before .args .p) (c .before .before .args .start) (c .if1 .taken)
+returns c = frame-other (c .before .before .args .numbers .now) (c .before .before .args .p) (c .before .before .args .start) (c .if1 .taken)
 
 add-t4 : tie.Need-add-t4
 add-t4 c = search needs
@@ -35,7 +35,7 @@ shared-slice-read-t14 : tie.Need-shared-slice-read-t14
 shared-slice-read-t14 c = search needs
 
 returns-2 : tie.Need-returns-2
-returns-2 c = frame-bitmap (c .before .before .before .before .args .l .now) (c .before .before .before .before .args .p) (c .before .before .before .before .args .start) (c .before .before .if1 .left)
+returns-2 c = frame-bitmap (c .before .before .before .before .args .numbers .now) (c .before .before .before .before .args .p) (c .before .before .before .before .args .start) (c .before .before .if1 .left)
 
 pub frame-spec : {M : Type 1} → statement M
 frame-spec =

@@ -39,7 +39,7 @@ returns-2 : tie.Need-returns-2
 returns-2 c =
     let e = c .before .before .before in
     let s = e .before .before .before in
-    panel-seen (s .args .l .now) (s .pre .1) (e .enum-told .given .1) (c .untabled .ensures)
+    panel-seen (s .args .numbers .now) (s .pre .1) (e .enum-told .given .1) (c .untabled .ensures)
 
 returns-3 : tie.Need-returns-3
 returns-3 c =

@@ -2,7 +2,7 @@
 use mathlib.Core.Path.{_≡_, sym, _∙_}
 use native.Mathlib.Omega.{arith}
 use lib.ListN.{length}
-use Rattle.laws.proofs.Arrays.{zeros}
+use Rattle.arithmetic.proofs.Arrays.{zeros}
 use Rattle.primitives.proofs.perform.Statement.{statement}
 use Rattle.primitives.proofs.perform.Tie as tie
 

@@ -4,7 +4,7 @@ use Prim.Native.Nat.{ℕ, _+_, _*_, _-_, _≤_, _<_}
 use native.Mathlib.Omega.{arith}
 use lib.ListN.{length}
 use borrow.Author.Needs.{needs}
-use Rattle.laws.specs.Interval.{between}
+use Rattle.arithmetic.specs.Interval.{between}
 use Rattle.words.specs.Words.{painted}
 use Rattle.runs.proofs.Runs.{paint-first, paint-next, next-kept}
 use Rattle.rop3.specs.Rop3.{applied}

@@ -44,10 +44,10 @@ loop-less : tie.Need-loop-less Inv-loop μ-loop
 loop-less c = omega arith
 
 loop-again : tie.Need-loop-again Inv-loop μ-loop
-loop-again c = (search needs, (search needs, distinct-more (view (c .before .before .before .before .before .before .args .l .now) .objects) (c .before .before .before .loop .k) (c .before .before .before .loop .inv .1 .1) (sym (c .before .is-absent .ensures) ∙ not-false _ (c .if1 .left))))
+loop-again c = (search needs, (search needs, distinct-more (view (c .before .before .before .before .before .before .args .numbers .now) .objects) (c .before .before .before .loop .k) (c .before .before .before .loop .inv .1 .1) (sym (c .before .is-absent .ensures) ∙ not-false _ (c .if1 .left))))
 
 returns-2 : tie.Need-returns-2 Inv-loop μ-loop
-returns-2 c = let e : c .before .loop .k ≡ at (c .before .before .before .before .args .l .now) countPlace = omega arith in all-seen _ _ e (c .before .loop .inv .1 .1)
+returns-2 c = let e : c .before .loop .k ≡ at (c .before .before .before .before .args .numbers .now) countPlace = omega arith in all-seen _ _ e (c .before .loop .inv .1 .1)
 
 pub all-pairs-differ-spec : {M : Type 1} → statement M
 all-pairs-differ-spec =

@@ -25,36 +25,36 @@ is-head-requires : tie.Need-is-head-requires
 is-head-requires c κs = search needs
 
 returns : tie.Need-returns
-returns c = unsound-record _ (λ r s. no-head (c .before .before .before .args .l .now) (sym (c .before .is-head .ensures) ∙ not-true _ (c .if1 .taken)) r)
+returns c = unsound-record _ (λ r s. no-head (c .before .before .before .args .numbers .now) (sym (c .before .is-head .ensures) ∙ not-true _ (c .if1 .taken)) r)
 
 shared-slice-read-panel-len : tie.Need-shared-slice-read-panel-len
-shared-slice-read-panel-len c = omega (arith, head-long (c .before .before .before .before .args .l .now) (passed (c .before .before .is-head .ensures) (c .before .if1 .left)))
+shared-slice-read-panel-len c = omega (arith, head-long (c .before .before .before .before .args .numbers .now) (passed (c .before .before .is-head .ensures) (c .before .if1 .left)))
 
 cast-panel-len : tie.Need-cast-panel-len
 cast-panel-len c = omega (arith, c .shared-slice-known2 .given panelLenPlace)
 
 returns-2 : tie.Need-returns-2
-returns-2 c = unsound-record _ (λ r s. omega (arith, s .panel-len, panel-len-seen (c .before .before .before .before .before .args .l .now)))
+returns-2 c = unsound-record _ (λ r s. omega (arith, s .panel-len, panel-len-seen (c .before .before .before .before .before .args .numbers .now)))
 
 shared-slice-read-store-len : tie.Need-shared-slice-read-store-len
 shared-slice-read-store-len c =
     let i = c .before .before .before in
     let a = i .before in
     let s = a .before .before in
-    omega (arith, head-long (s .args .l .now) (passed (a .is-head .ensures) (i .if1 .left)))
+    omega (arith, head-long (s .args .numbers .now) (passed (a .is-head .ensures) (i .if1 .left)))
 
 cast-store-len : tie.Need-cast-store-len
 cast-store-len c = omega (arith, c .shared-slice-known3 .given storeLenPlace)
 
 returns-3 : tie.Need-returns-3
-returns-3 c = unsound-record _ (λ r s. omega (arith, s .store-len, store-len-seen (c .before .before .before .before .before .before .before .args .l .now)))
+returns-3 c = unsound-record _ (λ r s. omega (arith, s .store-len, store-len-seen (c .before .before .before .before .before .before .before .args .numbers .now)))
 
 shared-slice-read-is-side : tie.Need-shared-slice-read-is-side
 shared-slice-read-is-side c =
     let i = c .before .before .before .before .before in
     let a = i .before in
     let s = a .before .before in
-    omega (arith, head-long (s .args .l .now) (passed (a .is-head .ensures) (i .if1 .left)))
+    omega (arith, head-long (s .args .numbers .now) (passed (a .is-head .ensures) (i .if1 .left)))
 
 is-side-requires : tie.Need-is-side-requires
 is-side-requires c κs = search needs
@@ -63,14 +63,14 @@ returns-4 : tie.Need-returns-4
 returns-4 c =
     let i = c .before in
     let a = i .before .before .before .before .before .before .before .before .before in
-    unsound-record _ (λ r s. failed (i .is-side .ensures) (c .if4 .taken) (rw (width-seen (a .args .l .now)) at (s .width)))
+    unsound-record _ (λ r s. failed (i .is-side .ensures) (c .if4 .taken) (rw (width-seen (a .args .numbers .now)) at (s .width)))
 
 shared-slice-read-is-side-2 : tie.Need-shared-slice-read-is-side-2
 shared-slice-read-is-side-2 c =
     let i = c .before .before .before .before .before .before .before .before in
     let a = i .before in
     let s = a .before .before in
-    omega (arith, head-long (s .args .l .now) (passed (a .is-head .ensures) (i .if1 .left)))
+    omega (arith, head-long (s .args .numbers .now) (passed (a .is-head .ensures) (i .if1 .left)))
 
 is-side-requires-2 : tie.Need-is-side-requires-2
 is-side-requires-2 c κs = search needs
@@ -79,14 +79,14 @@ returns-5 : tie.Need-returns-5
 returns-5 c =
     let i = c .before in
     let a = i .before .before .before .before .before .before .before .before .before .before .before .before in
-    unsound-record _ (λ r s. failed (i .is-side2 .ensures) (c .if5 .taken) (rw (height-seen (a .args .l .now)) at (s .height)))
+    unsound-record _ (λ r s. failed (i .is-side2 .ensures) (c .if5 .taken) (rw (height-seen (a .args .numbers .now)) at (s .height)))
 
 shared-slice-read-w : tie.Need-shared-slice-read-w
 shared-slice-read-w c =
     let i = c .before .before .before .before .before .before .before .before .before .before .before in
     let a = i .before in
     let s = a .before .before in
-    omega (arith, head-long (s .args .l .now) (passed (a .is-head .ensures) (i .if1 .left)))
+    omega (arith, head-long (s .args .numbers .now) (passed (a .is-head .ensures) (i .if1 .left)))
 
 cast-w : tie.Need-cast-w
 cast-w c = omega (arith, c .shared-slice-known6 .given widthPlace)
@@ -96,7 +96,7 @@ shared-slice-read-h c =
     let i = c .before .before .before .before .before .before .before .before .before .before .before .before in
     let a = i .before in
     let s = a .before .before in
-    omega (arith, head-long (s .args .l .now) (passed (a .is-head .ensures) (i .if1 .left)))
+    omega (arith, head-long (s .args .numbers .now) (passed (a .is-head .ensures) (i .if1 .left)))
 
 cast-h : tie.Need-cast-h
 cast-h c = omega (arith, c .shared-slice-known7 .given heightPlace)
@@ -108,7 +108,7 @@ mul-if6 c =
     let b = a .before .before in
     let d = b .before in
     let s = d .before .before .before .before .before .before .before .before .before in
-    omega (arith, area (at (s .args .l .now) widthPlace) (at (s .args .l .now) heightPlace) (passed (d .is-side .ensures) (b .if4 .left)) (passed (a .is-side2 .ensures) (i .if5 .left)))
+    omega (arith, area (at (s .args .numbers .now) widthPlace) (at (s .args .numbers .now) heightPlace) (passed (d .is-side .ensures) (b .if4 .left)) (passed (a .is-side2 .ensures) (i .if5 .left)))
 
 mul-if6-2 : tie.Need-mul-if6-2
 mul-if6-2 c =
@@ -117,19 +117,19 @@ mul-if6-2 c =
     let b = a .before .before in
     let d = b .before in
     let s = d .before .before .before .before .before .before .before .before .before in
-    omega (arith, area (at (s .args .l .now) widthPlace) (at (s .args .l .now) heightPlace) (passed (d .is-side .ensures) (b .if4 .left)) (passed (a .is-side2 .ensures) (i .if5 .left)))
+    omega (arith, area (at (s .args .numbers .now) widthPlace) (at (s .args .numbers .now) heightPlace) (passed (d .is-side .ensures) (b .if4 .left)) (passed (a .is-side2 .ensures) (i .if5 .left)))
 
 returns-6 : tie.Need-returns-6
 returns-6 c =
     let a = c .before .before .before .before .before .before .before .before .before .before .before .before .before .before .before .before in
-    unsound-record _ (λ r s. omega (arith, panel-seen (a .args .l .now) (s .panel)))
+    unsound-record _ (λ r s. omega (arith, panel-seen (a .args .numbers .now) (s .panel)))
 
 scan-slots-requires : tie.Need-scan-slots-requires
 scan-slots-requires c κs =
     let i = c .before .before .before .before .before .before .before .before .before .before .before .before .before in
     let a = i .before in
     let s = a .before .before in
-    (head-long (s .args .l .now) (passed (a .is-head .ensures) (i .if1 .left)), head-few (s .args .l .now) (passed (a .is-head .ensures) (i .if1 .left)))
+    (head-long (s .args .numbers .now) (passed (a .is-head .ensures) (i .if1 .left)), head-few (s .args .numbers .now) (passed (a .is-head .ensures) (i .if1 .left)))
 
 returns-7 : tie.Need-returns-7
 returns-7 c =
@@ -137,7 +137,7 @@ returns-7 c =
     let i = a .before .before .before .before .before .before .before .before .before .before .before .before .before .before in
     let b = i .before in
     let d = b .before .before in
-    unsound-record _ (λ r s. not-ended (d .args .l .now) (a .scan-slots .ensures .end) (c .if7 .taken) (slots-of (d .args .l .now) (passed (b .is-head .ensures) (i .if1 .left)) r) (s .slots))
+    unsound-record _ (λ r s. not-ended (d .args .numbers .now) (a .scan-slots .ensures .end) (c .if7 .taken) (slots-of (d .args .numbers .now) (passed (b .is-head .ensures) (i .if1 .left)) r) (s .slots))
 
 handles-differ-requires : tie.Need-handles-differ-requires
 handles-differ-requires c κs =
@@ -145,7 +145,7 @@ handles-differ-requires c κs =
     let i = s .before .before .before .before .before .before .before .before .before .before .before .before .before .before in
     let a = i .before in
     let b = a .before .before in
-    (of-slots (b .args .l .now) (passed (a .is-head .ensures) (i .if1 .left)) (ended (b .args .l .now) (s .scan-slots .ensures .end) (c .if7 .left) .0), s .scan-slots .ensures .apart)
+    (of-slots (b .args .numbers .now) (passed (a .is-head .ensures) (i .if1 .left)) (ended (b .args .numbers .now) (s .scan-slots .ensures .end) (c .if7 .left) .0), s .scan-slots .ensures .apart)
 
 returns-8 : tie.Need-returns-8
 returns-8 c = unsound-record _ (λ r s. failed (c .before .handles-differ .ensures) (c .if8 .taken) (s .apart))
@@ -165,15 +165,15 @@ returns-9 c =
     let m = k .before .before in
     let n = m .before in
     let o = n .before .before in
-    let f = ended (o .args .l .now) (s .scan-slots .ensures .end) (i .if7 .left) in
+    let f = ended (o .args .numbers .now) (s .scan-slots .ensures .end) (i .if7 .left) in
     by-soundness
-    (o .args .l .now)
-    (of-slots (o .args .l .now) (passed (n .is-head .ensures) (m .if1 .left)) (f .0))
+    (o .args .numbers .now)
+    (of-slots (o .args .numbers .now) (passed (n .is-head .ensures) (m .if1 .left)) (f .0))
     (sound-seen
-    (o .args .l .now)
+    (o .args .numbers .now)
     (k .if2 .left)
     (j .if3 .left)
-    (head-few (o .args .l .now) (passed (n .is-head .ensures) (m .if1 .left)))
+    (head-few (o .args .numbers .now) (passed (n .is-head .ensures) (m .if1 .left)))
     (passed (g .is-side .ensures) (e .if4 .left))
     (passed (d .is-side2 .ensures) (b .if5 .left))
     (a .if6 .left)

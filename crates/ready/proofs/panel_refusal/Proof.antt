@@ -2,7 +2,7 @@
 use mathlib.Core.Path.{sym, _∙_, refl}
 use native.Mathlib.Omega.{arith}
 use borrow.Author.Tests.{not-true, not-false}
-use Rattle.laws.proofs.Test.{both}
+use Rattle.arithmetic.proofs.Test.{both}
 use Rattle.numbers.specs.Layout.{panelLenPlace}
 use Rattle.numbers.specs.View.{view, isRecord}
 use Rattle.numbers.proofs.Seen.{record-length, panel-len-seen}
@@ -23,7 +23,7 @@ shared-slice-read-if2 c =
     let i = c .before in
     let a = i .before in
     let s = a .before .before in
-    omega (arith, record-length (s .args .l .now) (both (isRecord (s .args .l .now)) (isSound (view (s .args .l .now))) (sym (a .is-sound .ensures) ∙ not-false _ (i .if1 .left)) .0))
+    omega (arith, record-length (s .args .numbers .now) (both (isRecord (s .args .numbers .now)) (isSound (view (s .args .numbers .now))) (sym (a .is-sound .ensures) ∙ not-false _ (i .if1 .left)) .0))
 
 cast-if2 : tie.Need-cast-if2
 cast-if2 c = omega (arith, c .shared-slice-known2 .given panelLenPlace)
@@ -33,14 +33,14 @@ returns-2 c =
     let i = c .before .before in
     let a = i .before in
     let b = a .before .before in
-    of-record (b .args .l .now) _ _ (sym (a .is-sound .ensures) ∙ not-false _ (i .if1 .left)) (λ s. other-panel _ _ _ s (λ e. c .if2 .taken (e ∙ panel-len-seen (b .args .l .now))))
+    of-record (b .args .numbers .now) _ _ (sym (a .is-sound .ensures) ∙ not-false _ (i .if1 .left)) (λ s. other-panel _ _ _ s (λ e. c .if2 .taken (e ∙ panel-len-seen (b .args .numbers .now))))
 
 returns-3 : tie.Need-returns-3
 returns-3 c =
     let i = c .before .before in
     let a = i .before in
     let b = a .before .before in
-    of-record (b .args .l .now) _ _ (sym (a .is-sound .ensures) ∙ not-false _ (i .if1 .left)) (λ s. none-other _ _ _ s (c .if2 .left ∙ sym (panel-len-seen (b .args .l .now))) refl)
+    of-record (b .args .numbers .now) _ _ (sym (a .is-sound .ensures) ∙ not-false _ (i .if1 .left)) (λ s. none-other _ _ _ s (c .if2 .left ∙ sym (panel-len-seen (b .args .numbers .now))) refl)
 
 pub panel-refusal-spec : {M : Type 1} → statement M
 panel-refusal-spec =

@@ -1,5 +1,5 @@
 -- `records::main` is safe and ends: the stream's array is as long as it is declared. Assumes nothing.
-use Rattle.laws.proofs.Arrays.{zeros}
+use Rattle.arithmetic.proofs.Arrays.{zeros}
 use Rattle.records.proofs.main.Statement.{statement}
 use Rattle.records.proofs.main.Tie as tie
 

@@ -46,24 +46,24 @@ add-k c = omega (arith, record-count _ (c .before .pre .0))
 loop-holds : tie.Need-loop-holds Inv-loop μ-loop
 loop-holds c =
     let e = c .before in (
-      moved-none (e .args .l .now) (slotPlace (e .args .i)) slotSize,
-      (refl, (last-room (e .args .l .now) (e .pre .0) (e .args .i) (e .pre .1), (record-length _ (e .pre .0), (omega arith, omega arith)))),
+      moved-none (e .args .numbers .now) (slotPlace (e .args .i)) slotSize,
+      (refl, (last-room (e .args .numbers .now) (e .pre .0) (e .args .i) (e .pre .1), (record-length _ (e .pre .0), (omega arith, omega arith)))),
     )
 
-add-l : tie.Need-add-l Inv-loop μ-loop
-add-l c = omega arith
+add-numbers : tie.Need-add-numbers Inv-loop μ-loop
+add-numbers c = omega arith
 
-mul-l : tie.Need-mul-l Inv-loop μ-loop
-mul-l c = omega arith
+mul-numbers : tie.Need-mul-numbers Inv-loop μ-loop
+mul-numbers c = omega arith
 
-slice-read-l : tie.Need-slice-read-l Inv-loop μ-loop
-slice-read-l c = omega arith
+slice-read-numbers : tie.Need-slice-read-numbers Inv-loop μ-loop
+slice-read-numbers c = omega arith
 
-mul-l-2 : tie.Need-mul-l-2 Inv-loop μ-loop
-mul-l-2 c = omega arith
+mul-numbers-2 : tie.Need-mul-numbers-2 Inv-loop μ-loop
+mul-numbers-2 c = omega arith
 
-slice-write-l : tie.Need-slice-write-l Inv-loop μ-loop
-slice-write-l c = omega arith
+slice-write-numbers : tie.Need-slice-write-numbers Inv-loop μ-loop
+slice-write-numbers c = omega arith
 
 add-k-2 : tie.Need-add-k-2 Inv-loop μ-loop
 add-k-2 c = omega arith
@@ -75,12 +75,12 @@ loop-again : tie.Need-loop-again Inv-loop μ-loop
 loop-again c =
     let l = c .before .before .loop in
     let a = c .before .before .before .before .args in (
-      moved-more (a .l .now) (slotPlace (a .i)) slotSize 0 (l .l) (l .k) (omega arith) (omega arith) (l .inv .0),
+      moved-more (a .numbers .now) (slotPlace (a .i)) slotSize 0 (l .numbers) (l .k) (omega arith) (omega arith) (l .inv .0),
       (simp length-set (l .inv .1 .0), (l .inv .1 .1 .0, (l .inv .1 .1 .1 .0, (omega arith, omega arith)))),
     )
 
-slice-write-l-2 : tie.Need-slice-write-l-2 Inv-loop μ-loop
-slice-write-l-2 c = omega arith
+slice-write-numbers-2 : tie.Need-slice-write-numbers-2 Inv-loop μ-loop
+slice-write-numbers-2 c = omega arith
 
 same-length : tie.Need-same-length Inv-loop μ-loop
 same-length c = search needs
@@ -89,8 +89,8 @@ returns : tie.Need-returns Inv-loop μ-loop
 returns c =
     let l = c .before .loop in
     let e = c .before .before .before in
-    let f : l .k ≡ slotPlace (at (e .args .l .now) countPlace - 1) = omega arith in
-    moved-down (e .args .l .now) (e .pre .0) (e .args .i) (e .pre .1) (l .l) (rw f at (l .inv .0))
+    let f : l .k ≡ slotPlace (at (e .args .numbers .now) countPlace - 1) = omega arith in
+    moved-down (e .args .numbers .now) (e .pre .0) (e .args .i) (e .pre .1) (l .numbers) (rw f at (l .inv .0))
 
 pub remove-slot-spec : {M : Type 1} → statement M
 remove-slot-spec =
@@ -106,14 +106,14 @@ remove-slot-spec =
     mul-k
     add-k
     loop-holds
-    add-l
-    mul-l
-    slice-read-l
-    mul-l-2
-    slice-write-l
+    add-numbers
+    mul-numbers
+    slice-read-numbers
+    mul-numbers-2
+    slice-write-numbers
     add-k-2
     loop-less
     loop-again
-    slice-write-l-2
+    slice-write-numbers-2
     same-length
     returns)

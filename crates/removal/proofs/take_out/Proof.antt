@@ -30,12 +30,12 @@ bytes-of-requires : tie.Need-bytes-of-requires
 bytes-of-requires c κs =
     let e = c .before .before .before .before .before .before .before .before in
     let lt = e .pre .1 .1 .0 in
-    (slot-room _ (e .pre .0) _ lt, fits-seen (e .args .l .now) (e .pre .0) (e .args .i) lt (parts _ (e .pre .1 .0) .slots))
+    (slot-room _ (e .pre .0) _ lt, fits-seen (e .args .numbers .now) (e .pre .0) (e .args .i) lt (parts _ (e .pre .1 .0) .slots))
 
 close-up-requires : tie.Need-close-up-requires
 close-up-requires c κs =
     let e = c .before .before .before .before .before .before .before .before .before .before in
-    gap-room (e .args .l .now) (e .pre .0) (e .args .i) (e .pre .1 .1 .0)
+    gap-room (e .args .numbers .now) (e .pre .0) (e .args .i) (e .pre .1 .1 .0)
     (c .before .before .before .before .before .start-of .ensures .0) (c .before .bytes-of .ensures) (c .before .before .before .start-of2 .ensures .0)
     (e .pre .1 .0) (e .args .store .now) (e .pre .1 .1 .1)
 
@@ -54,7 +54,7 @@ returns c =
     let b = m .before .before in
     let e = b .before .before .before .before .before .before .before .before .before in (
       c .before .before .remove-slot .ensures,
-      gap-closed (e .args .l .now) (e .pre .0) (e .args .i) (e .pre .1 .1 .0)
+      gap-closed (e .args .numbers .now) (e .pre .0) (e .args .i) (e .pre .1 .1 .0)
           (b .before .before .before .before .start-of .ensures .0) (b .bytes-of .ensures) (b .before .before .start-of2 .ensures .0)
           (e .args .store .now) (m .close-up .ensures),
     )

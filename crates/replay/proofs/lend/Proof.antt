@@ -1,6 +1,6 @@
 -- `replay::lend` is safe and ends: the numbers and the memories are as long as they are declared. Assumes nothing.
 use mathlib.Core.Path.{sym}
-use Rattle.laws.proofs.Arrays.{zeros, served}
+use Rattle.arithmetic.proofs.Arrays.{zeros, served}
 use Rattle.numbers.specs.Layout.{recordSize}
 use Rattle.replay.proofs.lend.Statement.{statement}
 use Rattle.replay.proofs.lend.Tie as tie

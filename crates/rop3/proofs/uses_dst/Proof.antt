@@ -6,7 +6,7 @@ use native.Mathlib.Omega.{arith}
 use lib.Bits.{bitAnd, bitXor}
 use lib.Dec.{eqb}
 use borrow.Author.Needs.{needs}
-use Rattle.laws.proofs.Test.{agreed-below}
+use Rattle.arithmetic.proofs.Test.{agreed-below}
 use Rattle.rop3.specs.Rop3.{usesDst}
 use Rattle.rop3.proofs.uses_dst.Statement.{statement}
 use Rattle.rop3.proofs.uses_dst.Tie as tie

@@ -4,7 +4,7 @@ use Prim.Native.Nat.{_+_, _-_, _≤_}
 use native.Mathlib.Omega.{arith}
 use lib.ListN.{length, length-set}
 use borrow.Author.Needs.{needs}
-use Rattle.laws.specs.Interval.{between}
+use Rattle.arithmetic.specs.Interval.{between}
 use Rattle.words.specs.Words.{painted}
 use Rattle.runs.proofs.Runs.{paint-first, paint-next}
 use Rattle.runs.proofs.fill_run.Statement.{statement}

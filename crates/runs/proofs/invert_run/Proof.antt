@@ -4,7 +4,7 @@ use Prim.Native.Nat.{ℕ, _+_, _*_, _-_, _≤_, _<_}
 use native.Mathlib.Omega.{arith}
 use lib.ListN.{length, getD, length-set}
 use borrow.Author.Needs.{needs}
-use Rattle.laws.specs.Interval.{between}
+use Rattle.arithmetic.specs.Interval.{between}
 use Rattle.words.specs.Words.{written}
 use Rattle.runs.proofs.Runs.{write-first, write-next, byte-kept, small-before, inverted-painted}
 use Rattle.runs.proofs.invert_run.Statement.{statement}

@@ -2,13 +2,13 @@
 use mathlib.Core.Path.{_≡_}
 use native.Mathlib.Omega.{arith}
 use borrow.Author.Needs.{needs}
-use Rattle.script.specs.Script.{callOf}
+use Rattle.script.specs.Script.{scriptCall}
 use Rattle.script.proofs.Calls.{no-call}
 use Rattle.script.proofs.read_arguments.Statement.{statement}
 use Rattle.script.proofs.read_arguments.Tie as tie
 
 returns : tie.Need-returns
-unfolding callOf
+unfolding scriptCall
 returns c = let none : c .before .before .args .k ≡ 0 = omega arith in rw none
 
 read-create-requires : tie.Need-read-create-requires

@@ -5,7 +5,7 @@ use lib.ListN.{length}
 use denote.Ref.{now}
 use borrow.Author.Tests.{le-leb, lt-leb}
 use borrow.Author.Needs.{needs}
-use Rattle.script.specs.Script.{callOf}
+use Rattle.script.specs.Script.{scriptCall}
 use Rattle.script.proofs.Calls.{area-cut, next-cut}
 use Rattle.script.proofs.read_drawing.Statement.{statement}
 use Rattle.script.proofs.read_drawing.Tie as tie
@@ -29,7 +29,7 @@ add-t13 : tie.Need-add-t13
 add-t13 c = search needs
 
 returns-2 : tie.Need-returns-2
-unfolding callOf
+unfolding scriptCall
 returns-2 c =
     let a = c .before .before .before .before .before .args in
     rw (c .if2 .taken, c .before .before .read-u32 .ensures, c .before .read-area .ensures, le-leb (a .p + 20) (length (now (a .s))) (omega arith))
@@ -47,7 +47,7 @@ add-t15 : tie.Need-add-t15
 add-t15 c = search needs
 
 returns-4 : tie.Need-returns-4
-unfolding callOf
+unfolding scriptCall
 returns-4 c =
     let s = c .before .before .before .before in
     let a = s .before .before .before .before .args in
@@ -55,7 +55,7 @@ returns-4 c =
     (rw (s .before .read-u32 .ensures, s .read-area .ensures, c .before .read-u322 .ensures))
 
 returns-5 : tie.Need-returns-5
-unfolding callOf
+unfolding scriptCall
 returns-5 c =
     let e = c .before .before .before .before .before .before .before .before .before in
     rw (e .pre .0 .1 (omega arith), lt-leb (e .args .p + 36) (length (now (e .args .s))) (omega arith))
@@ -76,7 +76,7 @@ add-t10 : tie.Need-add-t10
 add-t10 c = search needs
 
 returns-6 : tie.Need-returns-6
-unfolding callOf
+unfolding scriptCall
 returns-6 c =
     let f = c .before .before .before .before in
     let s = f .before .before .before in

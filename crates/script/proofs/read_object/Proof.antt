@@ -6,7 +6,7 @@ use lib.ListN.{length}
 use denote.Ref.{now}
 use borrow.Author.Tests.{le-leb}
 use borrow.Author.Needs.{needs}
-use Rattle.script.specs.Script.{callOf}
+use Rattle.script.specs.Script.{scriptCall}
 use Rattle.script.proofs.Calls.{first-cut, second-cut}
 use Rattle.script.proofs.read_object.Statement.{statement}
 use Rattle.script.proofs.read_object.Tie as tie
@@ -24,14 +24,14 @@ add-t10 : tie.Need-add-t10
 add-t10 c = search needs
 
 returns-2 : tie.Need-returns-2
-unfolding callOf
+unfolding scriptCall
 returns-2 c = let a = c .before .before .before .before .args in rw (c .if2 .taken, c .before .read-u32 .ensures, le-leb (a .p + 4) (length (now (a .s))) (omega arith))
 
 add-t12 : tie.Need-add-t12
 add-t12 c = search needs
 
 returns-3 : tie.Need-returns-3
-unfolding callOf
+unfolding scriptCall
 returns-3 c = let a = c .before .before .before .before .before .args in rw (c .if3 .taken, c .before .before .read-u32 .ensures, le-leb (a .p + 4) (length (now (a .s))) (omega arith))
 
 returns-4 : tie.Need-returns-4
@@ -47,7 +47,7 @@ add-t7 : tie.Need-add-t7
 add-t7 c = search needs
 
 returns-5 : tie.Need-returns-5
-unfolding callOf
+unfolding scriptCall
 returns-5 c = let a = c .before .before .before .before .before .before .before .args in let eight : a .k ≡ 8 = omega arith in rw (eight, c .before .before .before .before .read-u32 .ensures, c .read-u322 .ensures, le-leb (a .p + 8) (length (now (a .s))) (omega arith))
 
 pub read-object-spec : {M : Type 1} → statement M

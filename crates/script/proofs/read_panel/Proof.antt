@@ -7,7 +7,7 @@ use denote.Ref.{now}
 use borrow.Author.Tests.{le-leb, lt-leb}
 use borrow.Author.Needs.{needs}
 use Rattle.bigendian.specs.BigEndian.{be32}
-use Rattle.script.specs.Script.{callOf}
+use Rattle.script.specs.Script.{scriptCall}
 use Rattle.script.proofs.Calls.{first-cut, second-cut}
 use Rattle.script.proofs.read_panel.Statement.{statement}
 use Rattle.script.proofs.read_panel.Tie as tie
@@ -22,7 +22,7 @@ read-u32-requires : tie.Need-read-u32-requires
 read-u32-requires c κs = search needs
 
 returns-2 : tie.Need-returns-2
-unfolding callOf
+unfolding scriptCall
 returns-2 c =
     let a = c .before .before .before .before .before .args in
     rw (c .before .if2 .taken, lt-leb (be32 (now (a .s)) (a .p)) 65535 (omega arith))
@@ -34,7 +34,7 @@ add-t13 : tie.Need-add-t13
 add-t13 c = search needs
 
 returns-3 : tie.Need-returns-3
-unfolding callOf
+unfolding scriptCall
 returns-3 c =
     let a = c .before .before .before .before .before .args in
     rw (c .before .if2 .taken, c .before .before .read-u32 .ensures)
@@ -54,7 +54,7 @@ add-t7 : tie.Need-add-t7
 add-t7 c = search needs
 
 returns-5 : tie.Need-returns-5
-unfolding callOf
+unfolding scriptCall
 returns-5 c =
     let a = c .before .before .before .before .before .before .args in
     let resize : a .k ≡ 17 = omega arith in

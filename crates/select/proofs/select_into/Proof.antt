@@ -1,7 +1,7 @@
 -- `select::select_into` meets its contract. Assumes nothing.
 use mathlib.Core.Path.{refl, sym, _∙_}
-use Rattle.lookup.proofs.Spotted.{spotted}
-use Rattle.plan.proofs.Followed.{acceptance-told, acceptance-same}
+use Rattle.lookup.proofs.HasDc.{has-dc}
+use Rattle.plan.proofs.Followed.{acceptance-record-only, acceptance-same}
 use Rattle.select.proofs.Select.{select-other, select-no-dc, select-tied}
 use borrow.Author.Needs.{needs}
 use Rattle.select.proofs.select_into.Statement.{statement}
@@ -31,12 +31,12 @@ selected-requires c κs = search needs
 select-in-requires : tie.Need-select-in-requires
 select-in-requires c κs = search needs
 
-store-dc-requires : tie.Need-store-dc-requires
-store-dc-requires c κs =
+update-dc-requires : tie.Need-update-dc-requires
+update-dc-requires c κs =
     let p = c .before .before .before .before in
     let f = p .before .before in
     let s = f .before .before .before .before .before .before in
-    (s .pre .is-record, spotted (f .find-dc .ensures) (p .p .given .1))
+    (s .pre .is-record, has-dc (f .find-dc .ensures) (p .p .given .1))
 
 enum-told-2 : tie.Need-enum-told-2
 enum-told-2 c = search needs
@@ -53,7 +53,7 @@ returns-2 c =
     let f = p .before .before in
     let m = f .before .before in
     let d = m .before in
-    λ ms. acceptance-told refl (select-tied _ _ _ (d .find-kind .ensures) (m .match .keys2) (sym (f .find-dc .ensures) ∙ p .p .given .1) (b .selected .ensures) (a .select-in .ensures)) (s .store-dc .ensures)
+    λ ms. acceptance-record-only refl (select-tied _ _ _ (d .find-kind .ensures) (m .match .keys2) (sym (f .find-dc .ensures) ∙ p .p .given .1) (b .selected .ensures) (a .select-in .ensures)) (s .update-dc .ensures)
 
 same-length-3 : tie.Need-same-length-3
 same-length-3 c = search needs
@@ -78,7 +78,7 @@ select-into-spec =
     enum-known-p
     selected-requires
     select-in-requires
-    store-dc-requires
+    update-dc-requires
     enum-told-2
     same-length-2
     returns-2

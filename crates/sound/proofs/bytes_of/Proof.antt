@@ -18,7 +18,7 @@ shared-slice-read-if1 : tie.Need-shared-slice-read-if1
 shared-slice-read-if1 c = search needs
 
 returns : tie.Need-returns
-returns c = bytes-other (c .before .before .args .l .now) (c .before .before .args .p) (c .if1 .taken)
+returns c = bytes-other (c .before .before .args .numbers .now) (c .before .before .args .p) (c .if1 .taken)
 
 add-w : tie.Need-add-w
 add-w c = search needs
@@ -45,13 +45,13 @@ cast-h : tie.Need-cast-h
 cast-h c = omega (arith, c .shared-slice-known3 .given (c .before .before .before .before .args .p + bitmapHeightPlace))
 
 mul-result : tie.Need-mul-result
-mul-result c = omega (arith, pixels-few (c .before .before .before .before .args .l .now) (c .before .before .before .before .args .p) (c .before .before .if1 .left) (c .before .before .before .before .pre .1))
+mul-result c = omega (arith, pixels-few (c .before .before .before .before .args .numbers .now) (c .before .before .before .before .args .p) (c .before .before .if1 .left) (c .before .before .before .before .pre .1))
 
 mul-result-2 : tie.Need-mul-result-2
-mul-result-2 c = omega (arith, pixels-few (c .before .before .before .before .args .l .now) (c .before .before .before .before .args .p) (c .before .before .if1 .left) (c .before .before .before .before .pre .1))
+mul-result-2 c = omega (arith, pixels-few (c .before .before .before .before .args .numbers .now) (c .before .before .before .before .args .p) (c .before .before .if1 .left) (c .before .before .before .before .pre .1))
 
 returns-2 : tie.Need-returns-2
-returns-2 c = bytes-bitmap (c .before .before .before .before .args .l .now) (c .before .before .before .before .args .p) (c .before .before .if1 .left)
+returns-2 c = bytes-bitmap (c .before .before .before .before .args .numbers .now) (c .before .before .before .before .args .p) (c .before .before .if1 .left)
 
 pub bytes-of-spec : {M : Type 1} → statement M
 bytes-of-spec =

@@ -48,16 +48,16 @@ is-side-requires-2 : tie.Need-is-side-requires-2
 is-side-requires-2 c κs = search needs
 
 returns : tie.Need-returns
-returns c = fits-dc (c .before .before .before .before .args .l .now) (c .before .before .before .before .args .p) (c .before .match .keys1)
+returns c = fits-dc (c .before .before .before .before .args .numbers .now) (c .before .before .before .before .args .p) (c .before .match .keys1)
 
 returns-2 : tie.Need-returns-2
-returns-2 c = bitmap-high (c .before .before .before .before .before .before .before .before .args .l .now) (c .before .before .before .before .before .before .before .before .args .p) (c .before .before .before .before .before .match .keys2) (sym (c .before .before .before .is-side .ensures) ∙ c .before .before .if1 .taken) (c .is-side2 .ensures)
+returns-2 c = bitmap-high (c .before .before .before .before .before .before .before .before .args .numbers .now) (c .before .before .before .before .before .before .before .before .args .p) (c .before .before .before .before .before .match .keys2) (sym (c .before .before .before .is-side .ensures) ∙ c .before .before .if1 .taken) (c .is-side2 .ensures)
 
 returns-3 : tie.Need-returns-3
-returns-3 c = bitmap-narrow (c .before .before .before .before .before .before .args .l .now) (c .before .before .before .before .before .before .args .p) (c .before .before .before .match .keys2) (sym (c .before .is-side .ensures) ∙ c .if1 .left)
+returns-3 c = bitmap-narrow (c .before .before .before .before .before .before .args .numbers .now) (c .before .before .before .before .before .before .args .p) (c .before .before .before .match .keys2) (sym (c .before .is-side .ensures) ∙ c .if1 .left)
 
 returns-4 : tie.Need-returns-4
-returns-4 c = fits-other (c .before .before .before .args .l .now) (c .before .before .before .args .p) (c .match .rest .0 .1) (c .match .rest .1)
+returns-4 c = fits-other (c .before .before .before .args .numbers .now) (c .before .before .before .args .p) (c .match .rest .0 .1) (c .match .rest .1)
 
 pub object-fits-spec : {M : Type 1} → statement M
 object-fits-spec =

@@ -26,7 +26,7 @@ cast-n : tie.Need-cast-n Inv-loop μ-loop
 cast-n c = omega (arith, c .shared-slice-known2 .given countPlace)
 
 loop-holds : tie.Need-loop-holds Inv-loop μ-loop
-loop-holds c = (omega arith, (c .before .before .pre .1, (c .before .before .pre .0, none-passed (c .before .before .args .l .now))))
+loop-holds c = (omega arith, (c .before .before .pre .1, (c .before .before .pre .0, none-passed (c .before .before .args .numbers .now))))
 
 mul-p : tie.Need-mul-p Inv-loop μ-loop
 mul-p c = omega arith
@@ -53,7 +53,7 @@ is-slot-requires : tie.Need-is-slot-requires Inv-loop μ-loop
 is-slot-requires c κs =
     let l = c .before .before in
     let s = l .before .before .before in
-    omega (arith, lent-long (now (s .args .l)) (l .loop .i) (s .pre .0) (omega arith))
+    omega (arith, lent-long (now (s .args .numbers)) (l .loop .i) (s .pre .0) (omega arith))
 
 unfit-requires : tie.Need-unfit-requires Inv-loop μ-loop
 unfit-requires c κs = search needs
@@ -65,7 +65,7 @@ returns c =
     let l = a .before .before in
     let b = l .before in
     let s = b .before .before .before in
-    nothing-passed (s .args .l .now) (c .unfit .ensures) (no-slot (s .args .l .now) (s .pre .1) (b .loop .i) (l .loop-test .taken) (sym (a .is-slot .ensures) ∙ not-true _ (i .if1 .taken)))
+    nothing-passed (s .args .numbers .now) (c .unfit .ensures) (no-slot (s .args .numbers .now) (s .pre .1) (b .loop .i) (l .loop-test .taken) (sym (a .is-slot .ensures) ∙ not-true _ (i .if1 .taken)))
 
 mul-handle-fits : tie.Need-mul-handle-fits Inv-loop μ-loop
 mul-handle-fits c = omega arith
@@ -86,7 +86,7 @@ returns-2 c =
     let l = h .before .before .before .before .before in
     let a = l .before in
     let s = a .before .before .before in
-    nothing-passed (s .args .l .now) (c .unfit2 .ensures) (handle-unfit (s .args .l .now) (s .pre .1) (a .loop .i) (l .loop-test .taken) (sym (h .handle-fits .ensures) ∙ not-true _ (i .if2 .taken)))
+    nothing-passed (s .args .numbers .now) (c .unfit2 .ensures) (handle-unfit (s .args .numbers .now) (s .pre .1) (a .loop .i) (l .loop-test .taken) (sym (h .handle-fits .ensures) ∙ not-true _ (i .if2 .taken)))
 
 object-fits-requires : tie.Need-object-fits-requires Inv-loop μ-loop
 object-fits-requires c κs = omega arith
@@ -103,7 +103,7 @@ returns-3 c =
     let l = h .before .before .before .before .before in
     let b = l .before in
     let s = b .before .before .before in
-    nothing-passed (s .args .l .now) (c .unfit3 .ensures) (object-unfit (s .args .l .now) (s .pre .1) (b .loop .i) (l .loop-test .taken) (sym (h .handle-fits .ensures) ∙ not-false _ (a .if2 .left)) (sym (o .object-fits .ensures) ∙ not-true _ (i .if3 .taken)))
+    nothing-passed (s .args .numbers .now) (c .unfit3 .ensures) (object-unfit (s .args .numbers .now) (s .pre .1) (b .loop .i) (l .loop-test .taken) (sym (h .handle-fits .ensures) ∙ not-false _ (a .if2 .left)) (sym (o .object-fits .ensures) ∙ not-true _ (i .if3 .taken)))
 
 bytes-of-requires : tie.Need-bytes-of-requires Inv-loop μ-loop
 bytes-of-requires c κs = (omega arith, sym (c .before .object-fits .ensures) ∙ not-false _ (c .if3 .left))
@@ -115,7 +115,7 @@ add-end c =
     let l = o .before .before .before .before .before .before .before in
     let a = l .before in
     let s = a .before .before .before in
-    omega (arith, a .loop .inv .1 .1 .1 .small, bytes-few (s .args .l .now) (s .pre .1) (a .loop .i) (l .loop-test .taken) (sym (o .object-fits .ensures) ∙ not-false _ (i .if3 .left)) (c .bytes-of .ensures))
+    omega (arith, a .loop .inv .1 .1 .1 .small, bytes-few (s .args .numbers .now) (s .pre .1) (a .loop .i) (l .loop-test .taken) (sym (o .object-fits .ensures) ∙ not-false _ (i .if3 .left)) (c .bytes-of .ensures))
 
 mul-goes-on : tie.Need-mul-goes-on Inv-loop μ-loop
 mul-goes-on c = omega arith
@@ -151,10 +151,10 @@ loop-again c =
     let l = e .before .before in
     let f = l .before in
     let s = f .before .before .before in
-    (omega arith, (search needs, (search needs, pass-more (s .args .l .now) (s .pre .1) (f .loop .i) (l .loop-test .taken) (f .loop .inv .1 .1 .1) (sym (e .is-slot .ensures) ∙ not-false _ (d .if1 .left)) (sym (h .handle-fits .ensures) ∙ not-false _ (a .if2 .left)) (sym (o .object-fits .ensures) ∙ not-false _ (i .if3 .left)) (b .bytes-of .ensures) (g .goes-on .ensures))))
+    (omega arith, (search needs, (search needs, pass-more (s .args .numbers .now) (s .pre .1) (f .loop .i) (l .loop-test .taken) (f .loop .inv .1 .1 .1) (sym (e .is-slot .ensures) ∙ not-false _ (d .if1 .left)) (sym (h .handle-fits .ensures) ∙ not-false _ (a .if2 .left)) (sym (o .object-fits .ensures) ∙ not-false _ (i .if3 .left)) (b .bytes-of .ensures) (g .goes-on .ensures))))
 
 returns-4 : tie.Need-returns-4 Inv-loop μ-loop
-returns-4 c = all-passed (c .before .before .before .before .args .l .now) {i = c .before .loop .i} (omega arith) (c .before .loop .inv .1 .1 .1)
+returns-4 c = all-passed (c .before .before .before .before .args .numbers .now) {i = c .before .loop .i} (omega arith) (c .before .loop .inv .1 .1 .1)
 
 pub scan-slots-spec : {M : Type 1} → statement M
 scan-slots-spec =

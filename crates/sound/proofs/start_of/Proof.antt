@@ -19,7 +19,7 @@ abbrev μ-loop : tie.MeasureT-loop
 μ-loop l n i₀ end₀ i end = n - i
 
 loop-holds : tie.Need-loop-holds Inv-loop μ-loop
-loop-holds c = (omega arith, (omega (arith, record-count _ (c .before .pre .0)), (omega arith, start-none (view (c .before .args .l .now)))))
+loop-holds c = (omega arith, (omega (arith, record-count _ (c .before .pre .0)), (omega arith, start-none (view (c .before .args .numbers .now)))))
 
 mul-bytes-of : tie.Need-mul-bytes-of Inv-loop μ-loop
 mul-bytes-of c = omega arith
@@ -28,10 +28,10 @@ add-bytes-of : tie.Need-add-bytes-of Inv-loop μ-loop
 add-bytes-of c = omega arith
 
 bytes-of-requires : tie.Need-bytes-of-requires Inv-loop μ-loop
-bytes-of-requires c κs = (slot-room _ (c .before .before .before .pre .0) _ (omega (arith, c .before .before .before .pre .1 .1)), fits-seen (c .before .before .before .args .l .now) (c .before .before .before .pre .0) _ (omega (arith, c .before .before .before .pre .1 .1)) (c .before .before .before .pre .1 .0))
+bytes-of-requires c κs = (slot-room _ (c .before .before .before .pre .0) _ (omega (arith, c .before .before .before .pre .1 .1)), fits-seen (c .before .before .before .args .numbers .now) (c .before .before .before .pre .0) _ (omega (arith, c .before .before .before .pre .1 .1)) (c .before .before .before .pre .1 .0))
 
 add-end : tie.Need-add-end Inv-loop μ-loop
-add-end c = omega (arith, bytes-small (c .before .before .before .before .args .l .now) (c .before .before .before .before .pre .0) (c .before .before .loop .i) (omega (arith, c .before .before .before .before .pre .1 .1)) (c .before .before .before .before .pre .1 .0) (c .bytes-of .ensures))
+add-end c = omega (arith, bytes-small (c .before .before .before .before .args .numbers .now) (c .before .before .before .before .pre .0) (c .before .before .loop .i) (omega (arith, c .before .before .before .before .pre .1 .1)) (c .before .before .before .before .pre .1 .0) (c .bytes-of .ensures))
 
 add-i : tie.Need-add-i Inv-loop μ-loop
 add-i c = omega arith
@@ -40,10 +40,10 @@ loop-less : tie.Need-loop-less Inv-loop μ-loop
 loop-less c = omega arith
 
 loop-again : tie.Need-loop-again Inv-loop μ-loop
-loop-again c = (search needs, (search needs, (omega (arith, bytes-small (c .before .before .before .before .args .l .now) (c .before .before .before .before .pre .0) (c .before .before .loop .i) (omega (arith, c .before .before .before .before .pre .1 .1)) (c .before .before .before .before .pre .1 .0) (c .bytes-of .ensures)), start-more (view (c .before .before .before .before .args .l .now)) (c .before .before .loop .i) (c .before .before .loop .inv .1 .1 .1) (bytes-seen (c .before .before .before .before .args .l .now) (c .before .before .before .before .pre .0) (c .before .before .loop .i) (omega (arith, c .before .before .before .before .pre .1 .1)) (c .bytes-of .ensures)))))
+loop-again c = (search needs, (search needs, (omega (arith, bytes-small (c .before .before .before .before .args .numbers .now) (c .before .before .before .before .pre .0) (c .before .before .loop .i) (omega (arith, c .before .before .before .before .pre .1 .1)) (c .before .before .before .before .pre .1 .0) (c .bytes-of .ensures)), start-more (view (c .before .before .before .before .args .numbers .now)) (c .before .before .loop .i) (c .before .before .loop .inv .1 .1 .1) (bytes-seen (c .before .before .before .before .args .numbers .now) (c .before .before .before .before .pre .0) (c .before .before .loop .i) (omega (arith, c .before .before .before .before .pre .1 .1)) (c .bytes-of .ensures)))))
 
 returns : tie.Need-returns Inv-loop μ-loop
-returns c = let e : c .before .loop .i ≡ c .before .before .before .args .n = omega arith in (c .before .loop .inv .1 .1 .1 ∙ ap (startOf (view (c .before .before .before .args .l .now))) e, omega arith)
+returns c = let e : c .before .loop .i ≡ c .before .before .before .args .n = omega arith in (c .before .loop .inv .1 .1 .1 ∙ ap (startOf (view (c .before .before .before .args .numbers .now))) e, omega arith)
 
 pub start-of-spec : {M : Type 1} → statement M
 start-of-spec =

@@ -5,7 +5,7 @@ use Prim.Native.Nat.{_*_, _≤_}
 use native.Mathlib.Nat.{mul-le-mul}
 use native.Mathlib.Omega.{arith}
 use borrow.Author.Needs.{needs}
-use Rattle.laws.proofs.Test.{together, not-left, not-right}
+use Rattle.arithmetic.proofs.Test.{together, not-left, not-right}
 use Rattle.surface.specs.Refusal.{side}
 use Rattle.surface.proofs.Accepted.{side-range, bad-side, bad-length, not-refused}
 use Rattle.surface.proofs.refusal.Statement.{statement}

@@ -4,7 +4,7 @@ use mathlib.Core.Bool.{Bool, _&&_}
 use borrow.Author.Needs.{needs}
 use borrow.Author.Tests.{le-leb, lt-leb}
 use native.Mathlib.Omega.{arith}
-use Rattle.laws.proofs.Test.{not-left, not-right, and-true}
+use Rattle.arithmetic.proofs.Test.{not-left, not-right, and-true}
 use Rattle.surface.specs.Refusal.{side, sourceSide, refusalFor}
 use Rattle.surface.proofs.Accepted.{bad-side}
 use Rattle.surface.proofs.refusal_from.Statement.{statement}

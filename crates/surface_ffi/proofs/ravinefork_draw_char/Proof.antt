@@ -1,7 +1,7 @@
 -- `surface_ffi::ravinefork_draw_char` meets its contract: it is that of `text::draw_char`. Assumes nothing.
 use mathlib.Core.Path.{_∙_}
 use borrow.Author.Needs.{needs}
-use Rattle.laws.proofs.Machine.{stored32}
+use Rattle.arithmetic.proofs.Machine.{stored32}
 use Rattle.surface_ffi.proofs.ravinefork_draw_char.Statement.{statement}
 use Rattle.surface_ffi.proofs.ravinefork_draw_char.Tie as tie
 

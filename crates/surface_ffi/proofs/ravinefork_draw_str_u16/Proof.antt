@@ -1,7 +1,7 @@
 -- `surface_ffi::ravinefork_draw_str_u16` meets its contract: it is that of `text::draw_str_u16`. Assumes nothing.
 use mathlib.Core.Path.{_∙_}
 use borrow.Author.Needs.{needs}
-use Rattle.laws.proofs.Machine.{stored32}
+use Rattle.arithmetic.proofs.Machine.{stored32}
 use Rattle.surface_ffi.proofs.ravinefork_draw_str_u16.Statement.{statement}
 use Rattle.surface_ffi.proofs.ravinefork_draw_str_u16.Tie as tie
 

@@ -1,7 +1,7 @@
 -- `surface_ffi::ravinefork_fill_rect` meets its contract: it is that of `fill::fill_rect`. Assumes nothing.
 use mathlib.Core.Path.{_∙_}
 use borrow.Author.Needs.{needs}
-use Rattle.laws.proofs.Machine.{stored32}
+use Rattle.arithmetic.proofs.Machine.{stored32}
 use Rattle.surface_ffi.proofs.ravinefork_fill_rect.Statement.{statement}
 use Rattle.surface_ffi.proofs.ravinefork_fill_rect.Tie as tie
 

@@ -7,7 +7,7 @@ use native.Mathlib.Omega.{arith}
 use lib.IntN.{pos, _+ℤ_}
 use lib.ListN.{length}
 use borrow.Author.Needs.{needs}
-use Rattle.laws.proofs.Machine.{held32, stored32}
+use Rattle.arithmetic.proofs.Machine.{held32, stored32}
 use Rattle.words.specs.Words.{painted}
 use Rattle.words.proofs.Painted.{painted-none, painted-cong}
 use Rattle.surface.specs.Region.{wordsOf}

@@ -6,7 +6,7 @@ use lib.IntN.{ℤ, pos, _+ℤ_, _-ℤ_}
 use mir.Syntax.{w64}
 use mir.Val.{toZ}
 use borrow.Author.Needs.{needs}
-use Rattle.laws.proofs.Machine.{natural64, held32, held64, cast-fits, cast-held, Terms, signed-term, natural-term, sum-terms, difference-terms, terms-fit, terms-held}
+use Rattle.arithmetic.proofs.Machine.{natural64, held32, held64, cast-fits, cast-held, Terms, signed-term, natural-term, sum-terms, difference-terms, terms-fit, terms-held}
 use Rattle.text.proofs.Reach.{reached}
 use Rattle.text.proofs.units_reached.Statement.{statement}
 use Rattle.text.proofs.units_reached.Tie as tie

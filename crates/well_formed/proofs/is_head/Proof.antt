@@ -39,7 +39,7 @@ returns-4 c =
     let a = i .before .before in
     let b = a .before .before in
     let s = b .before .before in
-    c .is-dc .ensures ∙ by-screen (s .args .l .now) (b .if1 .left) (a .if2 .left) (i .if3 .left)
+    c .is-dc .ensures ∙ by-screen (s .args .numbers .now) (b .if1 .left) (a .if2 .left) (i .if3 .left)
 
 pub is-head-spec : {M : Type 1} → statement M
 is-head-spec =

@@ -5,7 +5,7 @@ use native.Mathlib.Omega.{arith}
 use lib.Dec.{eqb}
 use denote.Ref.{now}
 use borrow.Author.Needs.{needs}
-use Rattle.laws.specs.Test.{allBelow}
+use Rattle.arithmetic.specs.Test.{allBelow}
 use Rattle.numbers.specs.Layout.{objectSize}
 use Rattle.numbers.specs.Block.{at}
 use Rattle.well_formed.proofs.Tested.{zeros-start, zeros-more, zeros-end}
@@ -19,7 +19,7 @@ abbrev μ-loop : tie.MeasureT-loop
 μ-loop l k bits₀ i₀ bits i = objectSize - i
 
 loop-holds : tie.Need-loop-holds Inv-loop μ-loop
-loop-holds c = (omega arith, (search needs, zeros-start (now (c .args .l)) (c .args .k)))
+loop-holds c = (omega arith, (search needs, zeros-start (now (c .args .numbers)) (c .args .k)))
 
 mul-bits : tie.Need-mul-bits Inv-loop μ-loop
 mul-bits c = omega arith
@@ -34,10 +34,10 @@ loop-less : tie.Need-loop-less Inv-loop μ-loop
 loop-less c = omega arith
 
 loop-again : tie.Need-loop-again Inv-loop μ-loop
-loop-again c = (omega arith, (omega arith, zeros-more (c .before .before .before .args .l .now) (c .before .before .before .args .k) (c .before .before .loop .i) (c .before .before .loop .bits) (c .before .before .loop .inv .0) (c .before .before .loop .inv .1 .1)))
+loop-again c = (omega arith, (omega arith, zeros-more (c .before .before .before .args .numbers .now) (c .before .before .before .args .k) (c .before .before .loop .i) (c .before .before .loop .bits) (c .before .before .loop .inv .0) (c .before .before .loop .inv .1 .1)))
 
 returns : tie.Need-returns Inv-loop μ-loop
-returns c = zeros-end (now (c .before .before .args .l)) (c .before .before .args .k) (c .before .loop .i) (c .before .loop .bits) (c .before .loop .inv .1 .0) (c .loop-test .left) (c .before .loop .inv .1 .1)
+returns c = zeros-end (now (c .before .before .args .numbers)) (c .before .before .args .k) (c .before .loop .i) (c .before .loop .bits) (c .before .loop .inv .1 .0) (c .loop-test .left) (c .before .loop .inv .1 .1)
 
 pub zeros-from-spec : {M : Type 1} → statement M
 zeros-from-spec =

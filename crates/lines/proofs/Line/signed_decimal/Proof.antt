@@ -1,6 +1,6 @@
 -- `lines::Line::signed_decimal` meets its contract. Assumes nothing.
 use borrow.Author.Needs.{needs}
-use Rattle.laws.proofs.Machine.{cast-fits}
+use Rattle.arithmetic.proofs.Machine.{cast-fits}
 use Rattle.lines.proofs.Signed.{opposite-fits, opposite-unsigned, opposite-abs, has-sign, same-unsigned, same-abs, no-sign}
 use Rattle.lines.proofs.Text.{signed-text, minus-text}
 use Rattle.lines.proofs.Line.signed_decimal.Statement.{statement}

@@ -1,5 +1,5 @@
 -- `records::tried::on_memories` is safe and ends: the memories are as long as they are declared. Assumes nothing.
-use Rattle.laws.proofs.Arrays.{zeros, served}
+use Rattle.arithmetic.proofs.Arrays.{zeros, served}
 use Rattle.records.proofs.tried.on_memories.Statement.{statement}
 use Rattle.records.proofs.tried.on_memories.Tie as tie
 

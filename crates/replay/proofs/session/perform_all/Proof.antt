@@ -4,18 +4,18 @@ use Prim.Native.Nat.{_-_}
 use native.Mathlib.Omega.{arith}
 use lib.ListN.{length}
 use borrow.Author.Needs.{needs}
-use Rattle.laws.proofs.Arrays.{zeros}
+use Rattle.arithmetic.proofs.Arrays.{zeros}
 use Rattle.replay.proofs.Calls.{ahead, call-bytes}
 use Rattle.replay.proofs.session.perform_all.Statement.{statement}
 use Rattle.replay.proofs.session.perform_all.Tie as tie
 
 abbrev Inv-loop : tie.InvT-loop
-Inv-loop s shown bench₀ panel₀ store₀ units₀ at₀ bench panel store units at =
-    (length bench ≡ length bench₀)
+Inv-loop s shown device₀ panel₀ store₀ units₀ at₀ device panel store units at =
+    (length device ≡ length device₀)
     × ((length panel ≡ length panel₀) × ((length store ≡ length store₀) × (length units ≡ 70000)))
 
 abbrev μ-loop : tie.MeasureT-loop
-μ-loop s shown bench₀ panel₀ store₀ units₀ at₀ bench panel store units at = length s - at
+μ-loop s shown device₀ panel₀ store₀ units₀ at₀ device panel store units at = length s - at
 
 loop-holds : tie.Need-loop-holds Inv-loop μ-loop
 loop-holds c = (refl, (refl, (refl, sym (zeros 70000))))

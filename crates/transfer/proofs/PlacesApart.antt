@@ -18,16 +18,16 @@ use Rattle.place.specs.declared.Place.{Place}
 use Rattle.place.specs.declared.Place.the-variants.{Nowhere, At}
 use Rattle.place.specs.declared.SurfaceId.{SurfaceId}
 use Rattle.place.specs.declared.SurfaceId.the-variants.{Panel, Bitmap}
-use Rattle.place.specs.Place.{same, live, frameOf, locate, whereIs}
+use Rattle.place.specs.Place.{same, live, placeFrom, locate, whereIs}
 use Rattle.place.proofs.Apart.{clash, Apart, no-first, no-second, panel-store, store-panel, before, behind, apart}
-use Rattle.transfer.specs.Inner.{Beside}
+use Rattle.transfer.specs.Inner.{PlacesApart}
 
 -- a place that begins at a word, if it is one
 abbrev Whole : Place → Type 0
 Whole Nowhere = Unit
 Whole (At m p w h) = 2 * (p / 2) ≡ p
 
-frame-whole : (o : GdiObject) (p : ℕ) → 2 * (p / 2) ≡ p → Whole (frameOf o p)
+frame-whole : (o : GdiObject) (p : ℕ) → 2 * (p / 2) ≡ p → Whole (placeFrom o p)
 frame-whole (DcOf d) p e = tt
 frame-whole (BitmapOf m) p e = e
 frame-whole (Brush x) p e = tt
@@ -49,7 +49,7 @@ locate-whole (s ∷ l) p h e = by (eqb (s .handle) h) (locate-whole l (p + bytes
     rest : Place
     rest = locate l (p + bytesOf (s .object)) h
 
-    by : (t : Bool) → Whole rest → Whole (cond t (frameOf (s .object) p) rest)
+    by : (t : Bool) → Whole rest → Whole (cond t (placeFrom (s .object) p) rest)
     by true later = frame-whole (s .object) p e
     by false later = later
 
@@ -61,12 +61,12 @@ whole b (Bitmap h) = by (eqb h stockBitmap)
     by true = omega arith
     by false = locate-whole (live b) 2 h (omega arith)
 
-beside-nowhere : (u : Place) → Beside u Nowhere
+beside-nowhere : (u : Place) → PlacesApart u Nowhere
 beside-nowhere Nowhere = tt
 beside-nowhere (At PanelMemory p w h) = tt
 beside-nowhere (At Store p w h) = tt
 
-beside-apart : {u v : Place} → Whole u → Whole v → Apart u v → Beside u v
+beside-apart : {u v : Place} → Whole u → Whole v → Apart u v → PlacesApart u v
 beside-apart i j no-first = tt
 beside-apart {u} i j no-second = beside-nowhere u
 beside-apart i j panel-store = tt
@@ -74,7 +74,7 @@ beside-apart i j store-panel = tt
 beside-apart i j (before e) = record { whole = i; whole-source = j; apart = inr (inl e) }
 beside-apart i j (behind e) = record { whole = i; whole-source = j; apart = inr (inr e) }
 
-beside-itself : (u : Place) → Whole u → Beside u u
+beside-itself : (u : Place) → Whole u → PlacesApart u u
 beside-itself Nowhere i = tt
 beside-itself (At PanelMemory p w h) i = record { whole = i; whole-source = i; apart = inl (refl, (refl, refl)) }
 beside-itself (At Store p w h) i = record { whole = i; whole-source = i; apart = inl (refl, (refl, refl)) }
@@ -86,9 +86,9 @@ one-name Panel (Bitmap h) e = clash e
 one-name (Bitmap h) Panel e = clash e
 one-name (Bitmap h) (Bitmap k) e = ap Bitmap (eqb-true h k e)
 
-pub beside : (b : GdiState) (u v : SurfaceId) → Beside (whereIs b u) (whereIs b v)
+pub beside : (b : GdiState) (u v : SurfaceId) → PlacesApart (whereIs b u) (whereIs b v)
 beside b u v = by (same u v) refl
   where
-    by : (t : Bool) → same u v ≡ t → Beside (whereIs b u) (whereIs b v)
-    by true e = subst (λ (z : SurfaceId). Beside (whereIs b u) (whereIs b z)) (one-name u v e) (beside-itself (whereIs b u) (whole b u))
+    by : (t : Bool) → same u v ≡ t → PlacesApart (whereIs b u) (whereIs b v)
+    by true e = subst (λ (z : SurfaceId). PlacesApart (whereIs b u) (whereIs b z)) (one-name u v e) (beside-itself (whereIs b u) (whole b u))
     by false e = beside-apart (whole b u) (whole b v) (apart b u v e)

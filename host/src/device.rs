@@ -1,4 +1,4 @@
-//! A bench: a record with its two memories.
+//! A device: a record with its two memories.
 
 use crate::call;
 use crate::ffi::{HostCall, Reply};
@@ -8,19 +8,19 @@ use crate::refusal::Refusal;
 use crate::MAX_MEMORY;
 
 /// A record together with the panel memory and the pixel store. It owns the
-/// memories, or borrows them as a `Bench<&mut [u8]>`.
+/// memories, or borrows them as a `Device<&mut [u8]>`.
 ///
 /// Each call is refused or does what it says; refused, it changes nothing. What
 /// can be read of the record, see [`Record`].
 #[derive(Clone, Debug)]
-pub struct Bench<M = Box<[u8]>> {
+pub struct Device<M = Box<[u8]>> {
     record: Record,
     panel: M,
     store: M,
 }
 
-impl Bench {
-    /// Opens a bench with new memories of these lengths. The panel takes
+impl Device {
+    /// Opens a device with new memories of these lengths. The panel takes
     /// 2·width·height bytes of its memory; the store holds the stock bitmap in 2
     /// bytes and each created bitmap in 2·width·height.
     ///
@@ -30,29 +30,29 @@ impl Bench {
         height: u32,
         panel_len: usize,
         store_len: usize,
-    ) -> Result<Bench, Refusal> {
+    ) -> Result<Device, Refusal> {
         // One byte above the limit is as far above it as any number.
         let memory = |len: usize| vec![0; len.min(MAX_MEMORY + 1)].into_boxed_slice();
-        Bench::open_on(width, height, memory(panel_len), memory(store_len))
+        Device::open_on(width, height, memory(panel_len), memory(store_len))
     }
 }
 
-impl<M: AsRef<[u8]> + AsMut<[u8]>> Bench<M> {
-    /// Opens a bench on these memories; as [`Bench::open`].
+impl<M: AsRef<[u8]> + AsMut<[u8]>> Device<M> {
+    /// Opens a device on these memories; as [`Device::open`].
     pub fn open_on(
         width: u32,
         height: u32,
         mut panel: M,
         mut store: M,
-    ) -> Result<Bench<M>, Refusal> {
+    ) -> Result<Device<M>, Refusal> {
         let mut record = Record::new();
         record.open(width, height, panel.as_mut(), store.as_mut())?;
-        Ok(Bench { record, panel, store })
+        Ok(Device { record, panel, store })
     }
 
-    /// The bench that a record and its memories are.
-    pub fn from_parts(record: Record, panel: M, store: M) -> Bench<M> {
-        Bench { record, panel, store }
+    /// The device that a record and its memories are.
+    pub fn from_parts(record: Record, panel: M, store: M) -> Device<M> {
+        Device { record, panel, store }
     }
 
     /// The record, the panel memory and the store.

@@ -26,38 +26,38 @@ use Rattle.place.specs.Place.{whereIs, targetOf}
 use Rattle.place.proofs.Apart.{clash}
 use Rattle.handles.specs.Handles.{newHandle}
 use Rattle.paint.specs.Paint.{draw, closing}
-use Rattle.paint.specs.Marks.{Marks, markedBy, marked, Keeps, Exactly, Unmarks, everywhere}
+use Rattle.paint.specs.Taint.{Taint, taintedBy, tainted, Keeps, Exactly, Untaints, everywhere}
 use Rattle.paint.proofs.After.{ruled, draw-exact, two-exact, blank-exact, close-exact}
 use Rattle.plan.specs.Answer.{Parts, refused, answered}
 use Rattle.plan.specs.declared.Area.{Area}
 use Rattle.plan.specs.declared.Point.{Point}
 use Rattle.plan.specs.declared.Call.{Call}
 use Rattle.plan.specs.declared.Call.the-variants.{Delete, Remove, PatternFill, Rectangle, Text, PanelFill, Resize, Blit}
-use Rattle.plan.specs.Plan.{Plan, told, refuse}
+use Rattle.plan.specs.Plan.{Plan, recordOnly, refuse}
 use Rattle.plan.specs.Stroke.{paintsOf}
-use Rattle.plan.specs.Create.{made, createOf, newBitmap, createBitmap}
-use Rattle.plan.specs.Delete.{goneAt, goes}
+use Rattle.plan.specs.Create.{creation, createOf, newBitmap, createBitmap}
+use Rattle.plan.specs.Delete.{deletionAt, deletionOf}
 use Rattle.plan.specs.Drawing.{patterned, boxOf, rimOf, patternFillOn, patternFill, rectangleOn, rectangle, textOn, text, blitBox, blitted, blitOn, blit}
 use Rattle.plan.specs.Panel.{noEffect, resized, resize}
 use Rattle.plan.specs.Calls.{act, plan}
 use Rattle.plan.specs.Refusal.{numberOf}
 use Rattle.plan.proofs.Refusal.{refusals-keep}
 use Rattle.plan.proofs.Select.{select-unpainted, setting-unpainted}
-use Rattle.noninterference.specs.Claim.{marksAfter}
-use Rattle.noninterference.specs.Marks.{Creates, memory-dc, bitmap, brush, pen, font, Sets, selection, text-color, text-align, bk-color, bk-mode, byDestination, bySource, number, marksBy, ExactMarks}
+use Rattle.noninterference.specs.Claim.{taintAfter}
+use Rattle.noninterference.specs.Taint.{Creates, memory-dc, bitmap, brush, pen, font, Sets, selection, text-color, text-align, bk-color, bk-mode, byDestination, bySource, number, taintBy, ExactTaint}
 
 -- a drawing without a source, and one without a code
-plain-exact : (m : Marks) (s : SurfaceId) (region : (x y : ℕ) → Bool) (t c : ℕ) → Exactly m (markedBy (draw (patterned s region t c)) m) s region (λ x y. (usesDst t ≡ true) × m s x y)
+plain-exact : (m : Taint) (s : SurfaceId) (region : (x y : ℕ) → Bool) (t c : ℕ) → Exactly m (taintedBy (draw (patterned s region t c)) m) s region (λ x y. (usesDst t ≡ true) × m s x y)
 plain-exact m s region t c = ruled (draw-exact m (patterned s region t c)) (λ x y. (by x y, λ i. inl i))
   where
     by : (x y : ℕ) → ((usesDst t ≡ true) × m s x y) ⊎ ((usesSrc t ≡ true) × ⊥) → (usesDst t ≡ true) × m s x y
     by x y (inl i) = i
     by x y (inr i) = absurd (i .1)
 
-solid-exact : (m : Marks) (s : SurfaceId) (region : (x y : ℕ) → Bool) (c : ℕ) → Unmarks m (markedBy (draw (patterned s region 0xF0 c)) m) s region
+solid-exact : (m : Taint) (s : SurfaceId) (region : (x y : ℕ) → Bool) (c : ℕ) → Untaints m (taintedBy (draw (patterned s region 0xF0 c)) m) s region
 solid-exact m s region c = ruled (plain-exact m s region 0xF0 c) (λ x y. ((λ i. clash (i .0)), (λ i. absurd i)))
 
-module _ (b : GdiState) (n k : ℕ) (us : List ℕ) (m : Marks) where
+module _ (b : GdiState) (n k : ℕ) (us : List ℕ) (m : Taint) where
   -- an accepted call has its own plan
   accepted-plan : (c : Call) → number b n k us c ≡ 0 → plan c us b n k ≡ act c us b
   unfolding plan
@@ -70,20 +70,20 @@ module _ (b : GdiState) (n k : ℕ) (us : List ℕ) (m : Marks) where
 
   -- by the paints of the call's plan
   by-plan : (c : Call) {p : Plan} {s : SurfaceId} {r : (x y : ℕ) → Bool} {f : (x y : ℕ) → Type 0} → plan c us b n k ≡ p
-      → Exactly m (marked (p .paint) m) s r f → Exactly m (marksBy b n k us m c) s r f
-  unfolding marksAfter
+      → Exactly m (tainted (p .paint) m) s r f → Exactly m (taintBy b n k us m c) s r f
+  unfolding taintAfter
   by-plan c e x = rw e x
 
-  unpainted-plan : (c : Call) {p : Plan} → plan c us b n k ≡ p → p .paint ≡ [] → Keeps m (marksBy b n k us m c)
-  unfolding marksAfter marked
+  unpainted-plan : (c : Call) {p : Plan} → plan c us b n k ≡ p → p .paint ≡ [] → Keeps m (taintBy b n k us m c)
+  unfolding taintAfter tainted
   unpainted-plan c e z = rw (e, z) (record { keeps = λ u x y. Iff·rfl })
 
   -- a call that paints nothing
-  unpainted : (c : Call) → act c us b .paint ≡ [] → Keeps m (marksBy b n k us m c)
+  unpainted : (c : Call) → act c us b .paint ≡ [] → Keeps m (taintBy b n k us m c)
   unfolding plan
   unpainted c z = by (eqb (commonRefusal b n k) 0) refl
     where
-      by : (t : Bool) → eqb (commonRefusal b n k) 0 ≡ t → Keeps m (marksBy b n k us m c)
+      by : (t : Bool) → eqb (commonRefusal b n k) 0 ≡ t → Keeps m (taintBy b n k us m c)
       by true f = unpainted-plan c {p = act c us b} (rw f) z
       by false f = unpainted-plan c {p = refuse (commonRefusal b n k) b} (rw f) refl
 
@@ -92,40 +92,40 @@ module _ (b : GdiState) (n k : ℕ) (us : List ℕ) (m : Marks) where
     unfolding patternFill
     fill-plan rop = rw e
 
-    fill-marks : (rop : ℕ) → number b n k us (PatternFill dc a rop) ≡ 0
-        → Exactly m (marksBy b n k us m (PatternFill dc a rop)) s (boxOf a) (byDestination m rop s)
-    unfolding act paintsOf marked
-    fill-marks rop z = by-plan (PatternFill dc a rop) (accepted-plan (PatternFill dc a rop) z ∙ fill-plan rop) (plain-exact m s (boxOf a) (tableOf rop) _)
+    fill-taint : (rop : ℕ) → number b n k us (PatternFill dc a rop) ≡ 0
+        → Exactly m (taintBy b n k us m (PatternFill dc a rop)) s (boxOf a) (byDestination m rop s)
+    unfolding act paintsOf tainted
+    fill-taint rop z = by-plan (PatternFill dc a rop) (accepted-plan (PatternFill dc a rop) z ∙ fill-plan rop) (plain-exact m s (boxOf a) (tableOf rop) _)
 
-    rectangle-marks : number b n k us (Rectangle dc a) ≡ 0 → Unmarks m (marksBy b n k us m (Rectangle dc a)) s (λ x y. boxOf a x y || rimOf a x y)
-    unfolding act paintsOf marked
-    rectangle-marks z = by-plan (Rectangle dc a) (accepted-plan (Rectangle dc a) z ∙ is) (two-exact (solid-exact m s (boxOf a) _) (solid-exact _ s (rimOf a) _))
+    rectangle-taint : number b n k us (Rectangle dc a) ≡ 0 → Untaints m (taintBy b n k us m (Rectangle dc a)) s (λ x y. boxOf a x y || rimOf a x y)
+    unfolding act paintsOf tainted
+    rectangle-taint z = by-plan (Rectangle dc a) (accepted-plan (Rectangle dc a) z ∙ is) (two-exact (solid-exact m s (boxOf a) _) (solid-exact _ s (rimOf a) _))
       where
         is : rectangle b dc a ≡ rectangleOn b a s d
         is = unfold rectangle in rw e
 
     module _ (src : ℕ) (p : Point) (rop : ℕ) (z : number b n k us (Blit dc a src p rop) ≡ 0) where
-      ignoring-marks : usesSrc (tableOf rop) ≡ false → Exactly m (marksBy b n k us m (Blit dc a src p rop)) s (boxOf a) (byDestination m rop s)
-      unfolding act paintsOf marked
-      ignoring-marks f = by-plan (Blit dc a src p rop) (accepted-plan (Blit dc a src p rop) z ∙ is ∙ fill-plan rop) (plain-exact m s (boxOf a) (tableOf rop) _)
+      ignoring-taint : usesSrc (tableOf rop) ≡ false → Exactly m (taintBy b n k us m (Blit dc a src p rop)) s (boxOf a) (byDestination m rop s)
+      unfolding act paintsOf tainted
+      ignoring-taint f = by-plan (Blit dc a src p rop) (accepted-plan (Blit dc a src p rop) z ∙ is ∙ fill-plan rop) (plain-exact m s (boxOf a) (tableOf rop) _)
         where
           is : blit b dc a src p rop ≡ patternFill b dc a rop
           is = unfold blit in rw f
 
-      blit-marks : (q : SurfaceId) (j : Site) (o : Dc) → usesSrc (tableOf rop) ≡ true → targetOf b src ≡ On q j o
-          → Exactly m (marksBy b n k us m (Blit dc a src p rop)) s (blitBox (whereIs b q) a p) (λ x y. byDestination m rop s x y ⊎ bySource m rop q a p x y)
-      unfolding act paintsOf marked
-      blit-marks q j o f g =
+      blit-taint : (q : SurfaceId) (j : Site) (o : Dc) → usesSrc (tableOf rop) ≡ true → targetOf b src ≡ On q j o
+          → Exactly m (taintBy b n k us m (Blit dc a src p rop)) s (blitBox (whereIs b q) a p) (λ x y. byDestination m rop s x y ⊎ bySource m rop q a p x y)
+      unfolding act paintsOf tainted
+      blit-taint q j o f g =
           by-plan (Blit dc a src p rop) (accepted-plan (Blit dc a src p rop) z ∙ is)
           (draw-exact m (blitted s q (whereIs b q) a p (tableOf rop) _))
         where
           is : blit b dc a src p rop ≡ blitOn b a p (tableOf rop) s d q
           is = unfold blit in rw (f, e, g)
 
-  text-marks : (dc : ℕ) (at : Point) (s : SurfaceId) (i : Site) (d : Dc) → number b n k us (Text dc at) ≡ 0 → targetOf b dc ≡ On s i d
-      → Unmarks m (marksBy b n k us m (Text dc at)) s (textInk us (unitCount us) (at .x) (at .y))
-  unfolding act paintsOf marked
-  text-marks dc at s i d z e = by-plan (Text dc at) (accepted-plan (Text dc at) z ∙ is) (solid-exact m s _ _)
+  text-taint : (dc : ℕ) (at : Point) (s : SurfaceId) (i : Site) (d : Dc) → number b n k us (Text dc at) ≡ 0 → targetOf b dc ≡ On s i d
+      → Untaints m (taintBy b n k us m (Text dc at)) s (textInk us (unitCount us) (at .x) (at .y))
+  unfolding act paintsOf tainted
+  text-taint dc at s i d z e = by-plan (Text dc at) (accepted-plan (Text dc at) z ∙ is) (solid-exact m s _ _)
     where
       by : (t : Bool) → numberOf (cond t (textOn b us (unitCount us) at s d) (refuse 10 b)) ≡ 0 → cond t (textOn b us (unitCount us) at s d) (refuse 10 b) ≡ textOn b us (unitCount us) at s d
       by true z = refl
@@ -137,9 +137,9 @@ module _ (b : GdiState) (n k : ℕ) (us : List ℕ) (m : Marks) where
       is : text b us dc at ≡ textOn b us (unitCount us) at s d
       is = shown ∙ by (leb (unitCount us) 65535) (ap numberOf (sym (accepted-plan (Text dc at) z ∙ shown)) ∙ z)
 
-  resize-marks : (w h : ℕ) → number b n k us (Resize w h) ≡ 0 → noEffect b w h ≡ false → Unmarks m (marksBy b n k us m (Resize w h)) Panel everywhere
-  unfolding act marked
-  resize-marks w h z e = by-plan (Resize w h) (accepted-plan (Resize w h) z ∙ is) (blank-exact m _ _ _ Panel)
+  resize-taint : (w h : ℕ) → number b n k us (Resize w h) ≡ 0 → noEffect b w h ≡ false → Untaints m (taintBy b n k us m (Resize w h)) Panel everywhere
+  unfolding act tainted
+  resize-taint w h z e = by-plan (Resize w h) (accepted-plan (Resize w h) z ∙ is) (blank-exact m _ _ _ Panel)
     where
       by : (t u : Bool) → numberOf (cond t (refuse 6 b) (cond u (refuse 7 b) (resized b w h))) ≡ 0 → cond t (refuse 6 b) (cond u (refuse 7 b) (resized b w h)) ≡ resized b w h
       by true u z = absurd (omega arith)
@@ -157,60 +157,60 @@ module _ (b : GdiState) (n k : ℕ) (us : List ℕ) (m : Marks) where
   refused-no-handle i h ne e = absurd (ne (ap (λ (a : Parts). a .number) e))
 
   module _ (h : ℕ) where
-    abbrev UnmarksNew : Plan → Type 0
-    UnmarksNew p = p .outcome .answer ≡ answered h → Unmarks m (marked (p .paint) m) (Bitmap h) everywhere
+    abbrev UntaintsNew : Plan → Type 0
+    UntaintsNew p = p .outcome .answer ≡ answered h → Untaints m (tainted (p .paint) m) (Bitmap h) everywhere
 
-    create-marks : (o : GdiObject) → UnmarksNew (createOf b o)
-    unfolding createOf marked
-    create-marks o = by (leb 256 (b .count)) (ltb (b .«store_len») (used b + bytesOf o))
+    create-taint : (o : GdiObject) → UntaintsNew (createOf b o)
+    unfolding createOf tainted
+    create-taint o = by (leb 256 (b .count)) (ltb (b .«store_len») (used b + bytesOf o))
       where
-        by : (t u : Bool) → UnmarksNew (cond t (refuse 5 b) (cond u (refuse 7 b) (made b o)))
+        by : (t u : Bool) → UntaintsNew (cond t (refuse 5 b) (cond u (refuse 7 b) (creation b o)))
         by true u e = refused-no-handle 5 h (λ z. omega arith) e
         by false true e = refused-no-handle 7 h (λ z. omega arith) e
         by false false e = let q : newHandle b ≡ h = ap (λ (a : Parts). a .value) e in rw (← q) (blank-exact m _ _ _ (Bitmap (newHandle b)))
 
-    bitmap-marks : (w v : ℕ) → UnmarksNew (createBitmap b w v)
+    bitmap-taint : (w v : ℕ) → UntaintsNew (createBitmap b w v)
     unfolding createBitmap
-    bitmap-marks w v = by (ltb 4096 w || ltb 4096 v)
+    bitmap-taint w v = by (ltb 4096 w || ltb 4096 v)
       where
-        by : (t : Bool) → UnmarksNew (cond t (refuse 6 b) (createOf b (newBitmap w v)))
+        by : (t : Bool) → UntaintsNew (cond t (refuse 6 b) (createOf b (newBitmap w v)))
         by true e = refused-no-handle 6 h (λ z. omega arith) e
-        by false e = create-marks (newBitmap w v) e
+        by false e = create-taint (newBitmap w v) e
 
-    act-created : {c : Call} → Creates c → UnmarksNew (act c us b)
+    act-created : {c : Call} → Creates c → UntaintsNew (act c us b)
     unfolding act
-    act-created memory-dc = create-marks _
-    act-created (bitmap {w = w} {h = v}) = bitmap-marks w v
-    act-created brush = create-marks _
-    act-created pen = create-marks _
-    act-created font = create-marks _
+    act-created memory-dc = create-taint _
+    act-created (bitmap {w = w} {h = v}) = bitmap-taint w v
+    act-created brush = create-taint _
+    act-created pen = create-taint _
+    act-created font = create-taint _
 
-    created-marks : (c : Call) → Creates c → plan c us b n k .outcome .answer ≡ answered h → Unmarks m (marksBy b n k us m c) (Bitmap h) everywhere
-    unfolding plan marksAfter
-    created-marks c i = by (eqb (commonRefusal b n k) 0) refl
+    created-taint : (c : Call) → Creates c → plan c us b n k .outcome .answer ≡ answered h → Untaints m (taintBy b n k us m c) (Bitmap h) everywhere
+    unfolding plan taintAfter
+    created-taint c i = by (eqb (commonRefusal b n k) 0) refl
       where
-        by : (t : Bool) → eqb (commonRefusal b n k) 0 ≡ t → UnmarksNew (cond t (act c us b) (refuse (commonRefusal b n k) b))
+        by : (t : Bool) → eqb (commonRefusal b n k) 0 ≡ t → UntaintsNew (cond t (act c us b) (refuse (commonRefusal b n k) b))
         by true f e = act-created i e
         by false f e = refused-no-handle (commonRefusal b n k) h (eqb-false (commonRefusal b n k) 0 f) e
 
     -- an object that is deleted or removed, or stays
     module _ (stock : Parts) (answer : ℕ → Parts) (none : Parts) where
-      goes-plan : (i : ℕ) → isStock h ≡ false → findOf b h ≡ At i → goes stock answer none b h .paint ≡ closing b h i
-      unfolding goes
+      goes-plan : (i : ℕ) → isStock h ≡ false → findOf b h ≡ At i → deletionOf stock answer none b h .paint ≡ closing b h i
+      unfolding deletionOf
       goes-plan i e f = rw (e, f)
 
-      stays-plan : (isStock h ≡ true) ⊎ (findOf b h ≡ Nothing) → goes stock answer none b h .paint ≡ []
-      unfolding goes
+      stays-plan : (isStock h ≡ true) ⊎ (findOf b h ≡ Nothing) → deletionOf stock answer none b h .paint ≡ []
+      unfolding deletionOf
       stays-plan (inl e) = rw e
       stays-plan (inr f) = by (isStock h)
         where
-          by : (t : Bool) → cond t (told b stock) (goneAt answer none b h (findOf b h)) .paint ≡ []
+          by : (t : Bool) → cond t (recordOnly b stock) (deletionAt answer none b h (findOf b h)) .paint ≡ []
           by true = refl
           by false = rw f
 
-    gone-marks : (c : Call) (i : ℕ) → number b n k us c ≡ 0 → act c us b .paint ≡ closing b h i → Unmarks m (marksBy b n k us m c) (Bitmap h) everywhere
-    unfolding marked
-    gone-marks c i z e = by-plan c {p = act c us b} (accepted-plan c z) (rw e (close-exact m h _ _ _))
+    deletion-taint : (c : Call) (i : ℕ) → number b n k us c ≡ 0 → act c us b .paint ≡ closing b h i → Untaints m (taintBy b n k us m c) (Bitmap h) everywhere
+    unfolding tainted
+    deletion-taint c i z e = by-plan c {p = act c us b} (accepted-plan c z) (rw e (close-exact m h _ _ _))
 
   act-set : {c : Call} → Sets c → act c us b .paint ≡ []
   unfolding act
@@ -224,23 +224,23 @@ module _ (b : GdiState) (n k : ℕ) (us : List ℕ) (m : Marks) where
   unfolding resize
   not-resized w h e = rw e
 
-  pub exact-marks : ExactMarks b n k us m
+  pub exact-taint : ExactTaint b n k us m
   unfolding act
-  exact-marks =
+  exact-taint =
       record {
-        rectangle = λ dc a s i d z e. rectangle-marks dc a s i d e z;
-        text = text-marks;
-        panel-fill = λ c z. unfold paintsOf marked in by-plan (PanelFill c) (accepted-plan (PanelFill c) z) (solid-exact m Panel everywhere (c .0));
-        resize = resize-marks;
-        pattern-fill = λ dc a rop s i d z e. fill-marks dc a s i d e rop z;
-        blit = λ dc a src p rop s q i j d o z u e f. blit-marks dc a s i d e src p rop z q j o u f;
-        blit-ignoring = λ dc a src p rop s i d z u e. ignoring-marks dc a s i d e src p rop z u;
+        rectangle = λ dc a s i d z e. rectangle-taint dc a s i d e z;
+        text = text-taint;
+        panel-fill = λ c z. unfold paintsOf tainted in by-plan (PanelFill c) (accepted-plan (PanelFill c) z) (solid-exact m Panel everywhere (c .0));
+        resize = resize-taint;
+        pattern-fill = λ dc a rop s i d z e. fill-taint dc a s i d e rop z;
+        blit = λ dc a src p rop s q i j d o z u e f. blit-taint dc a s i d e src p rop z q j o u f;
+        blit-ignoring = λ dc a src p rop s i d z u e. ignoring-taint dc a s i d e src p rop z u;
         refused = λ c ne. unpainted-plan c (refusals-keep c us b n k ne) refl;
         set = λ c i. unpainted c (act-set i);
         not-resized = λ w h e. unpainted (Resize w h) (not-resized w h e);
         not-deleted = λ h e. unpainted (Delete h) (stays-plan h _ _ _ e);
         not-removed = λ h e. unpainted (Remove h) (stays-plan h _ _ _ e);
-        deleted = λ h i z e f. gone-marks h (Delete h) i z (goes-plan h _ _ _ i e f);
-        removed = λ h i z e f. gone-marks h (Remove h) i z (goes-plan h _ _ _ i e f);
-        created = λ c h. created-marks h c;
+        deleted = λ h i z e f. deletion-taint h (Delete h) i z (goes-plan h _ _ _ i e f);
+        removed = λ h i z e f. deletion-taint h (Remove h) i z (goes-plan h _ _ _ i e f);
+        created = λ c h. created-taint h c;
       }

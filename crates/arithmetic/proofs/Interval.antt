@@ -5,7 +5,7 @@ use Prim.Native.Nat.{ℕ, _≤_, _<_}
 use native.Mathlib.Omega.{arith}
 use lib.Dec.{leb, ltb}
 use borrow.Author.Tests.{leb-true, leb-false, ltb-true, ltb-false}
-use Rattle.laws.specs.Interval.{between}
+use Rattle.arithmetic.specs.Interval.{between}
 
 -- where j lies
 pub data Lies (a b j : ℕ) : Type 0 where

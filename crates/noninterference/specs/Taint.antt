@@ -20,7 +20,7 @@ use Rattle.place.specs.declared.SurfaceId.{SurfaceId}
 use Rattle.place.specs.declared.SurfaceId.the-variants.{Panel, Bitmap}
 use Rattle.place.specs.declared.Target.the-variants.{On}
 use Rattle.place.specs.Place.{whereIs, targetOf}
-use Rattle.paint.specs.Marks.{Marks, Keeps, Exactly, Unmarks, everywhere}
+use Rattle.paint.specs.Taint.{Taint, Keeps, Exactly, Untaints, everywhere}
 use Rattle.plan.specs.Answer.{answered}
 use Rattle.plan.specs.declared.Area.{Area}
 use Rattle.plan.specs.declared.Point.{Point}
@@ -30,7 +30,7 @@ use Rattle.plan.specs.Drawing.{boxOf, rimOf, blitBox, columnFor, rowFor}
 use Rattle.plan.specs.Panel.{noEffect}
 use Rattle.plan.specs.Calls.{plan}
 use Rattle.plan.specs.Refusal.{numberOf}
-use Rattle.noninterference.specs.Claim.{marksAfter}
+use Rattle.noninterference.specs.Claim.{taintAfter}
 
 -- a call that makes an object
 pub data Creates : Call → Type 0 where
@@ -48,12 +48,12 @@ pub data Sets : Call → Type 0 where
   bk-color : {dc : ℕ} {c : Colorref} → Sets (SetBkColor dc c)
   bk-mode : {dc : ℕ} {t : Bool} → Sets (SetBkMode dc t)
 
--- the code uses D and the pixel was marked
-abbrev pub byDestination : Marks → (rop : ℕ) → SurfaceId → (x y : ℕ) → Type 0
+-- the code uses D and the pixel was tainted
+abbrev pub byDestination : Taint → (rop : ℕ) → SurfaceId → (x y : ℕ) → Type 0
 byDestination m rop s x y = (usesDst (tableOf rop) ≡ true) × m s x y
 
--- the code uses S and the source pixel taken for it, on q, was marked before the call
-abbrev pub bySource : Marks → (rop : ℕ) → SurfaceId → Area → Point → (x y : ℕ) → Type 0
+-- the code uses S and the source pixel taken for it, on q, was tainted before the call
+abbrev pub bySource : Taint → (rop : ℕ) → SurfaceId → Area → Point → (x y : ℕ) → Type 0
 bySource m rop q a p x y = (usesSrc (tableOf rop) ≡ true) × m q (columnFor a p x) (rowFor a p y)
 
 -- One call on a record, lent with memories of these lengths.
@@ -62,40 +62,40 @@ module _ (b : GdiState) (panel-len store-len : ℕ) (units : List ℕ) where
   abbrev pub number : Call → ℕ
   number c = numberOf (plan c units b panel-len store-len)
 
-  -- the claim's marks after it; m is marked before it
-  abbrev pub marksBy : Marks → Call → Marks
-  marksBy m c = marksAfter (record { call = c; units = units } ∷ []) b panel-len store-len m
+  -- the claim's marks after it; m is tainted before it
+  abbrev pub taintBy : Taint → Call → Taint
+  taintBy m c = taintAfter (record { call = c; units = units } ∷ []) b panel-len store-len m
 
-  -- For every call and every outcome, what is drawn, and which pixels are marked afterwards.
-  pub record ExactMarks (m : Marks) : Type 0 where
-    -- a fill without a code, outline, ink, panel fill and an effective resize unmark what they draw
+  -- For every call and every outcome, what is drawn, and which pixels are tainted afterwards.
+  pub record ExactTaint (m : Taint) : Type 0 where
+    -- a fill without a code, outline, ink, panel fill and an effective resize untaint what they draw
     pub rectangle : (dc : ℕ) (a : Area) (s : SurfaceId) (i : Site) (d : Dc) → number (Rectangle dc a) ≡ 0 → targetOf b dc ≡ On s i d
-        → Unmarks m (marksBy m (Rectangle dc a)) s (λ x y. boxOf a x y || rimOf a x y)
+        → Untaints m (taintBy m (Rectangle dc a)) s (λ x y. boxOf a x y || rimOf a x y)
     pub text : (dc : ℕ) (at : Point) (s : SurfaceId) (i : Site) (d : Dc) → number (Text dc at) ≡ 0 → targetOf b dc ≡ On s i d
-        → Unmarks m (marksBy m (Text dc at)) s (textInk units (unitCount units) (at .x) (at .y))
-    pub panel-fill : (c : Rgb565) → number (PanelFill c) ≡ 0 → Unmarks m (marksBy m (PanelFill c)) Panel everywhere
-    pub resize : (w h : ℕ) → number (Resize w h) ≡ 0 → noEffect b w h ≡ false → Unmarks m (marksBy m (Resize w h)) Panel everywhere
-    -- under a raster code a drawn pixel is marked afterwards exactly if the code uses D and the pixel was marked
+        → Untaints m (taintBy m (Text dc at)) s (textInk units (unitCount units) (at .x) (at .y))
+    pub panel-fill : (c : Rgb565) → number (PanelFill c) ≡ 0 → Untaints m (taintBy m (PanelFill c)) Panel everywhere
+    pub resize : (w h : ℕ) → number (Resize w h) ≡ 0 → noEffect b w h ≡ false → Untaints m (taintBy m (Resize w h)) Panel everywhere
+    -- under a raster code a drawn pixel is tainted afterwards exactly if the code uses D and the pixel was tainted
     pub pattern-fill : (dc : ℕ) (a : Area) (rop : ℕ) (s : SurfaceId) (i : Site) (d : Dc) → number (PatternFill dc a rop) ≡ 0 → targetOf b dc ≡ On s i d
-        → Exactly m (marksBy m (PatternFill dc a rop)) s (boxOf a) (byDestination m rop s)
-    -- or the call is a blit whose code uses S and the source pixel taken for it was marked before the call
+        → Exactly m (taintBy m (PatternFill dc a rop)) s (boxOf a) (byDestination m rop s)
+    -- or the call is a blit whose code uses S and the source pixel taken for it was tainted before the call
     pub blit : (dc : ℕ) (a : Area) (src : ℕ) (p : Point) (rop : ℕ) (s q : SurfaceId) (i j : Site) (d e : Dc) → number (Blit dc a src p rop) ≡ 0
         → usesSrc (tableOf rop) ≡ true → targetOf b dc ≡ On s i d → targetOf b src ≡ On q j e
-        → Exactly m (marksBy m (Blit dc a src p rop)) s (blitBox (whereIs b q) a p) (λ x y. byDestination m rop s x y ⊎ bySource m rop q a p x y)
+        → Exactly m (taintBy m (Blit dc a src p rop)) s (blitBox (whereIs b q) a p) (λ x y. byDestination m rop s x y ⊎ bySource m rop q a p x y)
     -- a blit whose code ignores S is a pattern fill
     pub blit-ignoring : (dc : ℕ) (a : Area) (src : ℕ) (p : Point) (rop : ℕ) (s : SurfaceId) (i : Site) (d : Dc) → number (Blit dc a src p rop) ≡ 0
         → usesSrc (tableOf rop) ≡ false → targetOf b dc ≡ On s i d
-        → Exactly m (marksBy m (Blit dc a src p rop)) s (boxOf a) (byDestination m rop s)
+        → Exactly m (taintBy m (Blit dc a src p rop)) s (boxOf a) (byDestination m rop s)
     -- pixels not drawn and refused calls keep marks: a selection, a setting, a resize without effect and a deletion or removal of
     -- a stock or absent handle draw no pixel
-    pub refused : (c : Call) → (number c ≡ 0 → ⊥) → Keeps m (marksBy m c)
-    pub set : (c : Call) → Sets c → Keeps m (marksBy m c)
-    pub not-resized : (w h : ℕ) → noEffect b w h ≡ true → Keeps m (marksBy m (Resize w h))
-    pub not-deleted : (h : ℕ) → (isStock h ≡ true) ⊎ (findOf b h ≡ Nothing) → Keeps m (marksBy m (Delete h))
-    pub not-removed : (h : ℕ) → (isStock h ≡ true) ⊎ (findOf b h ≡ Nothing) → Keeps m (marksBy m (Remove h))
+    pub refused : (c : Call) → (number c ≡ 0 → ⊥) → Keeps m (taintBy m c)
+    pub set : (c : Call) → Sets c → Keeps m (taintBy m c)
+    pub not-resized : (w h : ℕ) → noEffect b w h ≡ true → Keeps m (taintBy m (Resize w h))
+    pub not-deleted : (h : ℕ) → (isStock h ≡ true) ⊎ (findOf b h ≡ Nothing) → Keeps m (taintBy m (Delete h))
+    pub not-removed : (h : ℕ) → (isStock h ≡ true) ⊎ (findOf b h ≡ Nothing) → Keeps m (taintBy m (Remove h))
     -- a created bitmap's marks go when it is deleted or removed; field resize has those outside a resized panel
-    pub deleted : (h i : ℕ) → number (Delete h) ≡ 0 → isStock h ≡ false → findOf b h ≡ At i → Unmarks m (marksBy m (Delete h)) (Bitmap h) everywhere
-    pub removed : (h i : ℕ) → number (Remove h) ≡ 0 → isStock h ≡ false → findOf b h ≡ At i → Unmarks m (marksBy m (Remove h)) (Bitmap h) everywhere
+    pub deleted : (h i : ℕ) → number (Delete h) ≡ 0 → isStock h ≡ false → findOf b h ≡ At i → Untaints m (taintBy m (Delete h)) (Bitmap h) everywhere
+    pub removed : (h i : ℕ) → number (Remove h) ≡ 0 → isStock h ≡ false → findOf b h ≡ At i → Untaints m (taintBy m (Remove h)) (Bitmap h) everywhere
     -- a new bitmap has none
     pub created : (c : Call) (h : ℕ) → Creates c → plan c units b panel-len store-len .outcome .answer ≡ answered h
-        → Unmarks m (marksBy m c) (Bitmap h) everywhere
+        → Untaints m (taintBy m c) (Bitmap h) everywhere

@@ -1,10 +1,10 @@
 -- `dirty::store_dc` meets its contract. Assumes nothing.
 use native.Mathlib.Omega.{arith}
 use Rattle.numbers.proofs.Seen.{record-length}
-use Rattle.lookup.proofs.Stores.{spot-room, stored-screen, stored-created}
+use Rattle.lookup.proofs.Updates.{spot-room, updated-screen, updated-created}
 use borrow.Author.Needs.{needs}
-use Rattle.lookup.proofs.store_dc.Statement.{statement}
-use Rattle.lookup.proofs.store_dc.Tie as tie
+use Rattle.lookup.proofs.update_dc.Statement.{statement}
+use Rattle.lookup.proofs.update_dc.Tie as tie
 
 enum-told : tie.Need-enum-told
 enum-told c = search needs
@@ -55,16 +55,16 @@ same-length : tie.Need-same-length
 same-length c = search needs
 
 returns : tie.Need-returns
-returns c = stored-screen _ (c .before .before .before .before .before .before .before .pre .0) _ (c .before .before .put-dc .last .0) (c .before .before .before .before .enum-told .given .1) (c .before .before .put-dc .kept .0) (c .before .before .put-dc .ensures)
+returns c = updated-screen _ (c .before .before .before .before .before .before .before .pre .0) _ (c .before .before .put-dc .last .0) (c .before .before .before .before .enum-told .given .1) (c .before .before .put-dc .kept .0) (c .before .before .put-dc .ensures)
 
 same-length-2 : tie.Need-same-length-2
 same-length-2 c = search needs
 
 returns-2 : tie.Need-returns-2
-returns-2 c = stored-created _ (c .before .before .before .before .before .before .before .before .pre .0) _ (c .before .before .before .before .before .before .before .before .pre .1) (c .before .before .before .before .before .spot .given .1) (c .before .before .put-dc2 .last .0) (c .before .before .put-dc2 .kept .0) (c .before .before .put-dc2 .ensures)
+returns-2 c = updated-created _ (c .before .before .before .before .before .before .before .before .pre .0) _ (c .before .before .before .before .before .before .before .before .pre .1) (c .before .before .before .before .before .spot .given .1) (c .before .before .put-dc2 .last .0) (c .before .before .put-dc2 .kept .0) (c .before .before .put-dc2 .ensures)
 
-pub store-dc-spec : {M : Type 1} → statement M
-store-dc-spec =
+pub update-dc-spec : {M : Type 1} → statement M
+update-dc-spec =
     tie.close
     (tie.spec
     enum-told

@@ -1,4 +1,4 @@
-//! The bench: the original's objects and panel, behind refusals and in lent
+//! The device: the original's objects and panel, behind refusals and in lent
 //! memories, which the original does not have.
 
 use std::mem::replace;
@@ -18,7 +18,7 @@ pub const MAX_SIDE: u32 = 4096;
 pub const MAX_MEMORY: u64 = 33_554_432;
 pub const MAX_OBJECTS: usize = 256;
 
-pub struct Bench {
+pub struct Device {
     original: Original,
     pub(super) panel: Framebuffer,
     /// The stock bitmap, then the created objects in order of creation: the
@@ -34,7 +34,7 @@ pub struct Bench {
     pub moved: [u64; 2],
 }
 
-impl Bench {
+impl Device {
     /// The number with which open is refused, 0 if it is not: 6 a side, then 8 a
     /// memory above the limit, then 7 one that is too short.
     pub fn open_refusal(panel_len: u64, store_len: u64, width: u32, height: u32) -> u8 {
@@ -50,12 +50,12 @@ impl Bench {
         }
     }
 
-    /// Opens a bench on the lent memories, or says why not.
-    pub fn open(panel: Vec<u8>, store: Vec<u8>, width: u32, height: u32) -> (u8, Bench) {
+    /// Opens a device on the lent memories, or says why not.
+    pub fn open(panel: Vec<u8>, store: Vec<u8>, width: u32, height: u32) -> (u8, Device) {
         let (panel_len, store_len) = (panel.len() as u64, store.len() as u64);
         let refusal = Self::open_refusal(panel_len, store_len, width, height);
         let (width, height) = if refusal == 0 { (width, height) } else { (0, 0) };
-        let bench = Bench {
+        let device = Device {
             original: Original::new(),
             panel: Framebuffer::new(width, height),
             order: if refusal == 0 { vec![STOCK_DEFAULT_BITMAP] } else { Vec::new() },
@@ -64,7 +64,7 @@ impl Bench {
             changed: false,
             moved: [0; 2],
         };
-        (refusal, bench)
+        (refusal, device)
     }
 
     /// The length of the panel memory.
@@ -101,7 +101,7 @@ impl Bench {
     }
 
     /// Performs the call. Where a sum of the original overflows there is no
-    /// outcome, and the bench is as it was.
+    /// outcome, and the device is as it was.
     pub fn perform(&mut self, call: &Call) -> Result<Outcome, Overflow> {
         let panel = self.sides(Place::Panel);
         self.changed = false;
@@ -255,25 +255,25 @@ pub fn bytes_of(width: u32, height: u32) -> u64 {
 mod tests {
     use super::*;
 
-    /// A bench of 1 by 1 whose store has this length, filled with 0xA5.
-    fn bench(store_len: usize) -> Bench {
-        let (refusal, bench) = Bench::open(vec![0xA5; 3], vec![0xA5; store_len], 1, 1);
+    /// A device of 1 by 1 whose store has this length, filled with 0xA5.
+    fn device(store_len: usize) -> Device {
+        let (refusal, device) = Device::open(vec![0xA5; 3], vec![0xA5; store_len], 1, 1);
         assert_eq!(refusal, 0);
-        bench
+        device
     }
 
     /// Performs the call: its refusal and its answer, as printed.
-    fn perform(bench: &mut Bench, call: Call) -> String {
-        bench.perform(&call).expect("no sum overflows").to_string()
+    fn perform(device: &mut Device, call: Call) -> String {
+        device.perform(&call).expect("no sum overflows").to_string()
     }
 
-    fn bitmap(bench: &mut Bench, width: u32, height: u32) -> String {
-        perform(bench, Call::CreateCompatibleBitmap { width, height })
+    fn bitmap(device: &mut Device, width: u32, height: u32) -> String {
+        perform(device, Call::CreateCompatibleBitmap { width, height })
     }
 
     #[test]
     fn open_asks_for_sides_limits_and_lengths() {
-        let refusal = Bench::open_refusal;
+        let refusal = Device::open_refusal;
         assert_eq!(refusal(2, 2, 1, 1), 0);
         assert_eq!(refusal(MAX_MEMORY, MAX_MEMORY, 4096, 4096), 0);
         for (width, height) in [(0, 1), (1, 0), (4097, 1), (1, 4097), (u32::MAX, u32::MAX)] {
@@ -289,78 +289,78 @@ mod tests {
 
     #[test]
     fn open_blackens_the_panel_and_the_stock_pixel() {
-        let (refusal, bench) = Bench::open(vec![0xA5; 13], vec![0xA5; 4], 2, 3);
+        let (refusal, device) = Device::open(vec![0xA5; 13], vec![0xA5; 4], 2, 3);
         assert_eq!(refusal, 0);
-        assert_eq!(bench.panel_bytes(), [[0; 12].as_slice(), &[0xA5]].concat());
-        assert_eq!(bench.store_bytes(), [0, 0, 0xA5, 0xA5]);
-        let (refusal, bench) = Bench::open(vec![0xA5; 13], vec![0xA5; 1], 2, 3);
+        assert_eq!(device.panel_bytes(), [[0; 12].as_slice(), &[0xA5]].concat());
+        assert_eq!(device.store_bytes(), [0, 0, 0xA5, 0xA5]);
+        let (refusal, device) = Device::open(vec![0xA5; 13], vec![0xA5; 1], 2, 3);
         assert_eq!(refusal, 7);
-        assert_eq!(bench.panel_bytes(), [0xA5; 13]);
-        assert_eq!(bench.store_bytes(), [0xA5]);
-        let panel = bench.state().swap_remove(0);
+        assert_eq!(device.panel_bytes(), [0xA5; 13]);
+        assert_eq!(device.store_bytes(), [0xA5]);
+        let panel = device.state().swap_remove(0);
         assert_eq!(panel, "panel 0 0 frames 0 next dead1000 stock 0 count 0");
     }
 
     #[test]
     fn a_store_of_twelve_bytes() {
-        assert_eq!(bitmap(&mut bench(12), 0, 5), "0 dead1000");
-        assert_eq!(bitmap(&mut bench(12), 1, 6), "7 00000000");
-        assert_eq!(bitmap(&mut bench(12), 4097, 0), "6 00000000");
-        let mut bench = bench(12);
-        assert_eq!(bitmap(&mut bench, 1, 6), "7 00000000");
-        assert_eq!(bitmap(&mut bench, 0, 4), "0 dead1000");
-        assert_eq!(bitmap(&mut bench, 2, 1), "7 00000000");
-        assert_eq!(bitmap(&mut bench, 0, 0), "0 dead1001");
-        assert_eq!(perform(&mut bench, Call::Remove { handle: 0xDEAD_1000 }), "0 bitmap 1 4 0");
+        assert_eq!(bitmap(&mut device(12), 0, 5), "0 dead1000");
+        assert_eq!(bitmap(&mut device(12), 1, 6), "7 00000000");
+        assert_eq!(bitmap(&mut device(12), 4097, 0), "6 00000000");
+        let mut device = device(12);
+        assert_eq!(bitmap(&mut device, 1, 6), "7 00000000");
+        assert_eq!(bitmap(&mut device, 0, 4), "0 dead1000");
+        assert_eq!(bitmap(&mut device, 2, 1), "7 00000000");
+        assert_eq!(bitmap(&mut device, 0, 0), "0 dead1001");
+        assert_eq!(perform(&mut device, Call::Remove { handle: 0xDEAD_1000 }), "0 bitmap 1 4 0");
     }
 
     #[test]
     fn refusals_of_creation_in_their_order() {
-        let mut bench = bench(12);
+        let mut device = device(12);
         for _ in 0..MAX_OBJECTS {
-            assert!(perform(&mut bench, Call::CreateMemoryDc {}).starts_with("0 "));
+            assert!(perform(&mut device, Call::CreateMemoryDc {}).starts_with("0 "));
         }
-        assert_eq!(bitmap(&mut bench, 4097, 1), "6 00000000");
-        assert_eq!(bitmap(&mut bench, 4096, 4096), "5 00000000");
+        assert_eq!(bitmap(&mut device, 4097, 1), "6 00000000");
+        assert_eq!(bitmap(&mut device, 4096, 4096), "5 00000000");
         for call in [Call::CreateMemoryDc {}, Call::CreateFont { height: 1 }] {
-            assert_eq!(perform(&mut bench, call), "5 00000000");
+            assert_eq!(perform(&mut device, call), "5 00000000");
         }
-        assert_eq!(perform(&mut bench, Call::Delete { handle: 0xDEAD_1000 }), "0 1");
-        assert_eq!(bitmap(&mut bench, 4096, 4096), "7 00000000");
-        assert_eq!(bitmap(&mut bench, 1, 1), "0 dead1100");
+        assert_eq!(perform(&mut device, Call::Delete { handle: 0xDEAD_1000 }), "0 1");
+        assert_eq!(bitmap(&mut device, 4096, 4096), "7 00000000");
+        assert_eq!(bitmap(&mut device, 1, 1), "0 dead1100");
     }
 
     #[test]
     fn deletion_closes_the_gap() {
-        let mut bench = bench(14);
+        let mut device = device(14);
         for side in [1, 2, 1] {
-            bitmap(&mut bench, side, 1);
+            bitmap(&mut device, side, 1);
         }
         for (handle, byte) in [(0xDEAD_1000, 1), (0xDEAD_1001, 2), (0xDEAD_1002, 3)] {
-            bench.gdi_mut().bitmap_mut(handle).unwrap().pixels.fill(byte);
+            device.gdi_mut().bitmap_mut(handle).unwrap().pixels.fill(byte);
         }
-        assert_eq!(bench.store_bytes(), [0, 0, 1, 1, 2, 2, 2, 2, 3, 3, 0xA5, 0xA5, 0xA5, 0xA5]);
-        assert_eq!(perform(&mut bench, Call::Delete { handle: 0xDEAD_1001 }), "0 1");
-        assert_eq!(bench.store_bytes(), [0, 0, 1, 1, 3, 3, 0, 0, 0, 0, 0xA5, 0xA5, 0xA5, 0xA5]);
-        assert_eq!((bench.moved, bench.left()), ([1, 1], 8));
-        bitmap(&mut bench, 4, 1);
-        assert_eq!(bench.store_bytes(), [0, 0, 1, 1, 3, 3, 0, 0, 0, 0, 0, 0, 0, 0]);
-        perform(&mut bench, Call::Remove { handle: 0xDEAD_1000 });
-        assert_eq!(bench.store_bytes(), [0, 0, 3, 3, 0, 0, 0, 0, 0, 0, 0, 0, 0, 0]);
-        assert_eq!(bench.moved, [3, 2]);
+        assert_eq!(device.store_bytes(), [0, 0, 1, 1, 2, 2, 2, 2, 3, 3, 0xA5, 0xA5, 0xA5, 0xA5]);
+        assert_eq!(perform(&mut device, Call::Delete { handle: 0xDEAD_1001 }), "0 1");
+        assert_eq!(device.store_bytes(), [0, 0, 1, 1, 3, 3, 0, 0, 0, 0, 0xA5, 0xA5, 0xA5, 0xA5]);
+        assert_eq!((device.moved, device.left()), ([1, 1], 8));
+        bitmap(&mut device, 4, 1);
+        assert_eq!(device.store_bytes(), [0, 0, 1, 1, 3, 3, 0, 0, 0, 0, 0, 0, 0, 0]);
+        perform(&mut device, Call::Remove { handle: 0xDEAD_1000 });
+        assert_eq!(device.store_bytes(), [0, 0, 3, 3, 0, 0, 0, 0, 0, 0, 0, 0, 0, 0]);
+        assert_eq!(device.moved, [3, 2]);
     }
 
     #[test]
     fn settings_answer_the_old_value() {
-        let mut bench = bench(2);
+        let mut device = device(2);
         let dc = GDI_SCREEN_DC;
         let color = |dc, color| Call::SetTextColor { dc, color };
-        assert_eq!(perform(&mut bench, color(dc, 7)), "0 00000000");
-        assert_eq!(perform(&mut bench, color(dc, 8)), "0 00000007");
-        assert_eq!(perform(&mut bench, color(STOCK_DEFAULT_BITMAP, 8)), "1 00000000");
+        assert_eq!(perform(&mut device, color(dc, 7)), "0 00000000");
+        assert_eq!(perform(&mut device, color(dc, 8)), "0 00000007");
+        assert_eq!(perform(&mut device, color(STOCK_DEFAULT_BITMAP, 8)), "1 00000000");
         let mode = |dc, transparent| Call::SetBkMode { dc, transparent };
-        assert_eq!(perform(&mut bench, mode(dc, 1)), "0 0");
-        assert_eq!(perform(&mut bench, mode(dc, 0)), "0 1");
-        assert_eq!(perform(&mut bench, mode(0, 1)), "1 0");
+        assert_eq!(perform(&mut device, mode(dc, 1)), "0 0");
+        assert_eq!(perform(&mut device, mode(dc, 0)), "0 1");
+        assert_eq!(perform(&mut device, mode(0, 1)), "1 0");
     }
 }

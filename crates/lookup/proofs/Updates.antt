@@ -16,17 +16,17 @@ use Rattle.gdi.specs.declared.DcFound.the-variants.{Is}
 use Rattle.gdi.specs.declared.GdiObject.{GdiObject}
 use Rattle.gdi.specs.declared.GdiObject.the-variants.{Dc as DcOf}
 use Rattle.gdi.specs.Lookup.{objectAt, findOf}
-use Rattle.gdi.specs.Updates.{withScreen, storeOf}
+use Rattle.gdi.specs.Updates.{withScreen, withDc}
 use Rattle.gdi.proofs.Scan.{scan-handle, dc-found}
 use Rattle.numbers.specs.Layout.{dcSize, objectSize, slotSize, headSize, stockDirtyPlace, countPlace, screenPlace, slotPlace, handlePlace, kindPlace, objectPlace}
 use Rattle.numbers.specs.Block.{at, ObjectCoded}
-use Rattle.numbers.specs.View.{view, isRecord, Stored}
+use Rattle.numbers.specs.View.{view, isRecord, Updated}
 use Rattle.numbers.proofs.Block.{DcCoded, SlotCoded, lentBack, lent-back, dc-object}
 use Rattle.numbers.proofs.Record.{parts}
 use Rattle.numbers.proofs.Seen.{found-in, handle-seen, object-seen, object-part, part-at, by-kind}
-use Rattle.lookup.specs.Inner.{Spotted}
+use Rattle.lookup.specs.Inner.{HasDc}
 use Rattle.numbers.proofs.Updates.{screen-seen as screen-same}
-use Rattle.numbers.proofs.Kept.{Kept, kept-part, table-kept, front-record, front-rest, slot-stored}
+use Rattle.numbers.proofs.Kept.{Kept, kept-part, table-kept, front-record, front-rest, slot-updated}
 
 -- a slot by its handle, its kind and the object's numbers
 pub slot-from : {o : GdiObject} (kind h : ℕ) (m xs : List ℕ) → at m handlePlace ≡ h → at m kindPlace ≡ kind → part m objectPlace objectSize ≡ xs → ObjectCoded o kind xs → SlotCoded (record { handle = h; object = o }) m
@@ -49,8 +49,8 @@ module _ (l : List ℕ) (r : isRecord l ≡ true) where
     unfolding view
     screen-rest = front-rest l l′ r kept (omega arith) (number countPlace (omega arith))
 
-    screen-stored : Stored l (withScreen (view l) d) l′
-    screen-stored =
+    screen-updated : Updated l (withScreen (view l) d) l′
+    screen-updated =
         record {
           is-record = front-record l l′ r kept (omega arith) (number countPlace (omega arith)) (omega (arith, number stockDirtyPlace (omega arith), parts l r .flag)) (coded .is-dc);
           same = screen-seen;
@@ -58,7 +58,7 @@ module _ (l : List ℕ) (r : isRecord l ≡ true) where
         }
 
   -- a created DC
-  module _ (h : ℕ) {i : ℕ} {p : Spot} (s : Spotted (view l) h p) (e : p ≡ Created i) where
+  module _ (h : ℕ) {i : ℕ} {p : Spot} (s : HasDc (view l) h p) (e : p ≡ Created i) where
     found : (findOf (view l) h ≡ At i) × (objectAt (view l) i ≡ DcOf (s .dc))
     found = dc-found (view l) h (s .found ∙ ap (λ (q : Spot). Is q (s .dc)) e)
 
@@ -80,8 +80,8 @@ module _ (l : List ℕ) (r : isRecord l ≡ true) where
     pub spot-room : slotPlace i + slotSize ≤ length l
     spot-room = omega (arith, spot-below, parts l r .few, parts l r .long)
 
-    created-stored : {d : Dc} (xs : List ℕ) → length xs ≡ objectSize → DcCoded d xs → Stored l (storeOf (view l) h (Created i) d) (withPart l (slotPlace i + objectPlace) objectSize xs)
-    created-stored {d} xs len coded = slot-stored l whole r i spot-below (kept-part l xs (slotPlace i) slotSize (slotPlace i + objectPlace) objectSize len fits (omega arith) (omega arith)) put
+    created-updated : {d : Dc} (xs : List ℕ) → length xs ≡ objectSize → DcCoded d xs → Updated l (withDc (view l) h (Created i) d) (withPart l (slotPlace i + objectPlace) objectSize xs)
+    created-updated {d} xs len coded = slot-updated l whole r i spot-below (kept-part l xs (slotPlace i) slotSize (slotPlace i + objectPlace) objectSize len fits (omega arith) (omega arith)) put
       where
         whole : List ℕ
         whole = withPart l (slotPlace i + objectPlace) objectSize xs
@@ -104,16 +104,16 @@ module _ (l : List ℕ) (r : isRecord l ≡ true) where
     object-size = omega arith
 
     -- the same, with the part as the code lends it and has it back
-    pub stored-created : {d : Dc} (xs : List ℕ) → length xs ≡ length (take (slotPlace i + slotSize - (slotPlace i + objectPlace)) (drop (slotPlace i + objectPlace) l)) → DcCoded d xs
-        → Stored l (storeOf (view l) h p d) (take (slotPlace i + objectPlace) l ++ (xs ++ drop (slotPlace i + slotSize - (slotPlace i + objectPlace)) (drop (slotPlace i + objectPlace) l)))
-    stored-created xs len coded =
+    pub updated-created : {d : Dc} (xs : List ℕ) → length xs ≡ length (take (slotPlace i + slotSize - (slotPlace i + objectPlace)) (drop (slotPlace i + objectPlace) l)) → DcCoded d xs
+        → Updated l (withDc (view l) h p d) (take (slotPlace i + objectPlace) l ++ (xs ++ drop (slotPlace i + slotSize - (slotPlace i + objectPlace)) (drop (slotPlace i + objectPlace) l)))
+    updated-created xs len coded =
         rw (e, object-size, drop-drop objectSize (slotPlace i + objectPlace) l)
-        (created-stored xs (len ∙ rw object-size (length-part l (slotPlace i + objectPlace) objectSize (omega (arith, spot-room)))) coded)
+        (created-updated xs (len ∙ rw object-size (length-part l (slotPlace i + objectPlace) objectSize (omega (arith, spot-room)))) coded)
 
-  pub stored-screen : {d : Dc} (h : ℕ) {p : Spot} (xs : List ℕ) → p ≡ Screen → length xs ≡ length (part l screenPlace dcSize) → DcCoded d xs → Stored l (storeOf (view l) h p d) (lentBack l screenPlace dcSize xs)
-  stored-screen h xs e len coded =
+  pub updated-screen : {d : Dc} (h : ℕ) {p : Spot} (xs : List ℕ) → p ≡ Screen → length xs ≡ length (part l screenPlace dcSize) → DcCoded d xs → Updated l (withDc (view l) h p d) (lentBack l screenPlace dcSize xs)
+  updated-screen h xs e len coded =
       rw (e, lent-back l screenPlace dcSize xs)
-      (screen-stored (withPart l screenPlace dcSize xs) (kept-part l xs screenPlace dcSize screenPlace dcSize long fits (omega arith) (omega arith)) (rw (part-same l xs screenPlace dcSize long fits) coded))
+      (screen-updated (withPart l screenPlace dcSize xs) (kept-part l xs screenPlace dcSize screenPlace dcSize long fits (omega arith) (omega arith)) (rw (part-same l xs screenPlace dcSize long fits) coded))
     where
       fits : screenPlace + dcSize ≤ length l
       fits = omega (arith, parts l r .long)

@@ -1,4 +1,4 @@
-/* Opens a bench, draws on it and prints what it came to. The header's structs must be laid out as the Rust declarations, which
+/* Opens a device, draws on it and prints what it came to. The header's structs must be laid out as the Rust declarations, which
    come as LAYOUT: a size or an offset each. */
 #include "ravinefork.h"
 
