@@ -1,4 +1,4 @@
--- The length of an array of zeros. By these laws it is not counted element by element. Assumes nothing.
+-- The length of an array of zeros, so that no proof counts it element by element. Assumes nothing.
 use mathlib.Core.Path.{_≡_, sym, subst}
 use Prim.Native.Nat.{ℕ, _≤_}
 use lib.ListN.{length, replicate, length-replicate}

@@ -12,7 +12,7 @@ use Rattle.arithmetic.specs.Integer.{positive}
 use Rattle.arithmetic.specs.Inner.{negative}
 use Rattle.arithmetic.proofs.Test.{same-order}
 
--- z = p - n, with neither part larger than it need be
+-- z = p - n, and one of the two is 0
 abbrev pub Difference : ℤ → ℕ → ℕ → Type 0
 Difference z p n = (positive z + n ≡ p + negative z) × ((positive z ≤ p) × (negative z ≤ n))
 
@@ -56,7 +56,7 @@ eq-parts (pos a) (negsuc b) h = absurd (omega arith)
 eq-parts (negsuc a) (pos b) h = absurd (omega arith)
 eq-parts (negsuc a) (negsuc b) h = ap negsuc (omega arith)
 
--- integers that are as far apart, a - b = c - e, are in the same order
+-- integers with equal differences, a - b = c - e, are in the same order
 module _ (a b c e : ℤ) (same : positive a + negative b + (positive e + negative c) ≡ positive c + negative e + (positive b + negative a)) where
   pub le-moved : leZ a b ≡ leZ c e
   le-moved =
@@ -84,7 +84,7 @@ pub not-negative : (z : ℤ) → negative z ≡ 0 → T (nonNeg z)
 not-negative (pos n) h = tt
 not-negative (negsuc n) h = absurd (omega arith)
 
--- a test of the code's against 0
+-- the code's test against 0
 pub tested-negative : (z : ℤ) → ltZ z (pos 0) ≡ true → positive z ≡ 0
 tested-negative (pos n) e = let h : n < 0 = leb-true (suc n) 0 e in omega arith
 tested-negative (negsuc n) e = refl
@@ -93,7 +93,7 @@ pub tested-positive : (z : ℤ) → ltZ z (pos 0) ≡ false → negative z ≡ 0
 tested-positive (pos n) e = refl
 tested-positive (negsuc n) e = absurd (true≢false e)
 
--- an extent of the code's, tested against 0
+-- the code's test of an extent against 0
 pub not-positive : (z : ℤ) → leZ z (pos 0) ≡ true → ltZ (pos 0) z ≡ false
 not-positive (pos n) e = lt-leb 1 n (let h : n ≤ 0 = leb-true n 0 e in omega arith)
 not-positive (negsuc n) e = refl

@@ -46,7 +46,7 @@ bounds a b j e = by (where-is a b j)
     by (before f h) = absurd (true≢false (sym e ∙ f))
     by (behind f h) = absurd (true≢false (sym e ∙ f))
 
--- two tests that ask the same
+-- two equivalent tests
 pub between-cong : (a b j a′ b′ j′ : ℕ) → (a ≤ j → j < b → (a′ ≤ j′) × (j′ < b′)) → (a′ ≤ j′ → j′ < b′ → (a ≤ j) × (j < b)) → between a b j ≡ between a′ b′ j′
 between-cong a b j a′ b′ j′ f g = by (where-is a b j)
   where

@@ -1,4 +1,4 @@
--- Signed machine words: what the code holds of an integer, and which sums are exact in 64 bits. Assumes nothing.
+-- Signed machine words: how the code holds an integer, and which sums are exact in 64 bits. Assumes nothing.
 use mathlib.Core.Path.{_≡_}
 use Prim.Native.Nat.{ℕ, _+_, _*_, _≤_, _<_, _^_}
 use native.Mathlib.Omega.{arith}
@@ -31,7 +31,7 @@ fits32 (negsuc n) p q = record { sfits = omega arith }
 pub fits64 : (z : ℤ) → positive z < 2 ^ 40 → negative z < 2 ^ 40 → SFits w64 z
 fits64 z p n = record { sfits = omega (arith, magnitude z) }
 
--- what the code reads back of an integer that it stored
+-- an integer that was stored, as the code reads it back
 abbrev pub held32 : ℤ → ℤ
 held32 z = toZ w32 (ofZ w32 z)
 

@@ -1,4 +1,4 @@
--- Laws of a sum over all numbers below a bound: it grows at its end, and equal terms have equal sums. Assumes nothing.
+-- Laws of a sum over all numbers below a bound: its last term can be split off, and equal terms have equal sums. Assumes nothing.
 use mathlib.Core.Path.{_≡_, refl}
 use Prim.Native.Nat.{ℕ, zero, suc, _+_, _≤_, _<_}
 use native.Mathlib.Decide.{decLt}
@@ -17,7 +17,7 @@ sum-suc k f = refl
 pub sum-more : (k : ℕ) (f : ℕ → ℕ) {x : ℕ} → x ≡ f k → sumBelow k f + x ≡ sumBelow (k + 1) f
 sum-more k f e = rw (add-one k, sum-suc k f, e)
 
--- a sum up to i, with its next part, is at most the whole sum
+-- a sum up to i, with its next term, is at most the whole sum
 pub sum-le : (f : ℕ → ℕ) (i n : ℕ) → i < n → sumBelow i f + f i ≤ sumBelow n f
 sum-le f i zero lt = absurd (omega arith)
 sum-le f i (suc n) lt = rw (sum-suc n f) (by (decLt i n) (λ l. sum-le f i n l))

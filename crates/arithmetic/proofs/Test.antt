@@ -42,13 +42,13 @@ each zero f t n h = absurd (not-suc-le-zero h)
 each (suc k) f t zero h = both (f 0) (allBelow k (λ n. f (suc n))) t .0
 each (suc k) f t (suc n) h = each k (λ m. f (suc m)) (both (f 0) (allBelow k (λ m. f (suc m))) t .1) n (le-of-suc-le-suc h)
 
--- no number below k has what none has
+-- if the test finds none below k, it fails at each
 pub none : (k : ℕ) (f : ℕ → Bool) → anyBelow k f ≡ false → (n : ℕ) → n < k → f n ≡ false
 none zero f t n h = absurd (not-suc-le-zero h)
 none (suc k) f t zero h = neither (f 0) (anyBelow k (λ m. f (suc m))) t .0
 none (suc k) f t (suc n) h = none k (λ m. f (suc m)) (neither (f 0) (anyBelow k (λ m. f (suc m))) t .1) n (le-of-suc-le-suc h)
 
--- a test below a bound grows at its end
+-- the last number of a test can be split off
 or-swap : (a b c : Bool) → (a || (b || c)) ≡ (b || (a || c))
 or-swap true true c = refl
 or-swap true false c = refl
@@ -102,13 +102,13 @@ pub all-same : (n : ℕ) (f g : ℕ → Bool) → ((i : ℕ) → i < n → f i �
 all-same zero f g h = refl
 all-same (suc n) f g h = rw (all-suc n f, all-suc n g, h n (omega arith), all-same n f g (λ i lt. h i (omega arith)))
 
--- two tests that follow from each other are equal
+-- two tests that imply each other are equal
 pub same-test : (t u : Bool) → (t ≡ true → u ≡ true) → (u ≡ true → t ≡ true) → t ≡ u
 same-test true u f g = sym (f refl)
 same-test false true f g = g refl
 same-test false false f g = refl
 
--- two tests of order that follow from each other are equal
+-- two tests of order that imply each other are equal
 pub same-order : (a b c d : ℕ) → (a ≤ b → c ≤ d) → (c ≤ d → a ≤ b) → leb a b ≡ leb c d
 same-order a b c d f g = same-test (leb a b) (leb c d) (λ e. le-leb c d (f (leb-true a b e))) (λ e. le-leb a b (g (leb-true c d e)))
 

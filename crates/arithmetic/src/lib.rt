@@ -1,2 +1,2 @@
-// Laws that every crate above cites: intervals, integers as differences of naturals, tests that are computed. They stand in
-// specs/ and proofs/; there is no code.
+// Laws that all other crates cite: intervals, integers as differences of naturals, computed tests. They are in specs/ and proofs/;
+// there is no code.

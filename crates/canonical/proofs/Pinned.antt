@@ -1,4 +1,4 @@
--- The numbers in use are determined by the record that they are: each is a function of it. Assumes nothing.
+-- The numbers in use are determined by the record that they encode: each is a function of it. Assumes nothing.
 use mathlib.Core.Bool.{Bool, true, _&&_, _||_, true≢false}
 use mathlib.Core.List.{List, [], _∷_}
 use mathlib.Core.Path.{_≡_, refl, sym, _∙_, ap}
@@ -28,7 +28,7 @@ use Rattle.numbers.proofs.Record.{parts}
 use Rattle.numbers.proofs.Seen.{part-at, count-seen}
 use Rattle.numbers.proofs.View.{deviceNumbers, slot-seen}
 
--- flags, surfaces and bitmaps come back as their numbers
+-- flags, surfaces and selected bitmaps, written back, are their numbers
 flag-number : (n : ℕ) → n ≤ 1 → n ≡ flagNumber (flagOf n)
 flag-number zero h = refl
 flag-number (suc zero) h = refl
@@ -81,7 +81,7 @@ listed-behind l p zero i h = refl
 listed-behind l p (suc k) zero h = absurd (omega arith)
 listed-behind l p (suc k) (suc i) h = listed-behind l (suc p) k i (omega arith)
 
--- an object's numbers of which those from k on are 0 are the first k, and zeros
+-- an object's numbers that are 0 from k on are the first k followed by zeros
 zeros-behind : (l : List ℕ) (k : ℕ) → zerosFrom l k ≡ true → (i : ℕ) → i < objectSize → at l i ≡ at (listed l 0 k) i
 zeros-behind l k t i lt = by (decLt i k)
   where
@@ -152,7 +152,7 @@ slot-back l b t (suc (suc i)) lt =
     ap (at l) (omega arith) ∙ sym (part-at l objectPlace objectSize i (omega arith))
     ∙ object-back (at l kindPlace) (part l objectPlace objectSize) (rw (part-at l objectPlace objectSize fontHeightIn (omega arith)) b) t i (omega arith)
 
--- what the numbers of a record are, by the record
+-- the numbers of a record, from the record
 module _ (l : List ℕ) (small : (k : ℕ) → at l k < 2 ^ 32) (r : isRecord l ≡ true) where
   device-listed : listed l 0 headSize ≡ deviceNumbers (view l)
   unfolding view
@@ -175,7 +175,7 @@ module _ (l : List ℕ) (small : (k : ℕ) → at l k < 2 ^ 32) (r : isRecord l 
       ∙ slot-back (part l (slotPlace i) slotSize) (rw (part-at l (slotPlace i) slotSize objectPlace (omega arith)) (small (slotPlace i + objectPlace))) (parts l r .slots i lt) k h
       ∙ sym (ap (λ s. at (slotNumbers s) k) (slot-seen l i lt (omega (arith, parts l r .few))))
 
--- two lists of numbers that are the same record, and agree past its last object
+-- two lists of numbers that encode the same record and agree past its last object are equal
 pub same-numbers : (l m : List ℕ) → ((k : ℕ) → at l k < 2 ^ 32) → ((k : ℕ) → at m k < 2 ^ 32) → isRecord l ≡ true → isRecord m ≡ true → view l ≡ view m → drop (slotPlace (at l countPlace)) l ≡ drop (slotPlace (at m countPlace)) m → l ≡ m
 same-numbers l m sl sm rl rm e rest =
     ext-getD 0 l m (parts l rl .long ∙ sym (parts m rm .long)) (λ k lt. by k (decLt k headSize) (decLt k slotsPlace) (decLt k (slotPlace (at l countPlace))))
@@ -201,7 +201,7 @@ same-numbers l m sl sm rl rm e rest =
         ∙ ap (λ (d : List ℕ). at d (k - slotPlace (at l countPlace))) rest
         ∙ getD-drop (slotPlace (at m countPlace)) m (k - slotPlace (at l countPlace)) 0 ∙ ap (at m) j
 
--- numbers that became a record are determined by the numbers before and the record
+-- updated numbers are determined by the numbers before and the record
 pub updated-unique : (l l′ k′ : List ℕ) (b : GdiState) → ((k : ℕ) → at l′ k < 2 ^ 32) → ((k : ℕ) → at k′ k < 2 ^ 32) → Updated l b l′ → Updated l b k′ → l′ ≡ k′
 updated-unique l l′ k′ b sl sk x y =
     same-numbers l′ k′ sl sk (x .is-record) (y .is-record) (x .same ∙ sym (y .same)) (rest l′ x ∙ sym (rest k′ y))
@@ -209,7 +209,7 @@ updated-unique l l′ k′ b sl sk x y =
     rest : (m : List ℕ) → Updated l b m → drop (slotPlace (at m countPlace)) m ≡ drop (slotPlace (b .count)) l
     rest m z = ap (λ (n : ℕ). drop (slotPlace n) m) (sym (count-seen m) ∙ ap (λ (s : GdiState). s .count) (z .same)) ∙ z .rest
 
--- and so are an object's kind and numbers by the object
+-- an object's kind and numbers are determined by the object
 pub same-object : {o : GdiObject} {i j : ℕ} {l m : List ℕ} → length l ≡ objectSize → length m ≡ objectSize → at l fontHeightIn < 2 ^ 32 → at m fontHeightIn < 2 ^ 32
     → ObjectCoded o i l → ObjectCoded o j m → (i ≡ j) × (l ≡ m)
 same-object {i = i} {j = j} {l = l} {m = m} long long′ small small′ x y =

@@ -1,4 +1,4 @@
--- A clipped stretch holds just the coordinates of the side that the stretch covers, and so does a clipped box on both axes.
+-- A clipped interval holds exactly the coordinates of the side that the interval covers, and so does a clipped box on both axes.
 -- Assumes nothing.
 use mathlib.Core.Path.{_≡_, refl, sym, _∙_}
 use mathlib.Core.Bool.{true, false, _&&_}
@@ -22,7 +22,7 @@ pub nearest-parts : (z : ℤ) (side : ℕ) → nearest z side ≡ min (positive 
 nearest-parts (pos n) side = refl
 nearest-parts (negsuc n) side = omega arith
 
--- below the side, the nearest number has the same coordinates before and behind it as the integer
+-- below the side, the same coordinates come before the nearest number as before the integer
 module _ (z : ℤ) (side c : ℕ) (h : c < side) where
   pub nearest-le : leb (nearest z side) c ≡ leZ z (pos c)
   nearest-le =
@@ -34,7 +34,7 @@ module _ (z : ℤ) (side c : ℕ) (h : c < side) where
       rw (nearest-parts z side, lt-parts (pos c) z)
       (same-order (suc c) (min (positive z) side) (suc (c + negative z)) (positive z + 0) (λ k. omega (arith, one-part z)) (λ k. omega arith))
 
--- what a stretch of n covers, over the parts
+-- the coordinates that an interval of length n covers, over the parts
 pub covers-parts : (x : ℤ) (n c : ℕ) → covers x (pos n) c ≡ between (positive x) (positive x + n) (c + negative x)
 covers-parts x n c =
     let from : leZ x (pos c) ≡ leb (positive x) (c + negative x)
@@ -44,7 +44,7 @@ covers-parts x n c =
     ∙ same-order (suc (c + negative (x +ℤ pos n))) (positive (x +ℤ pos n) + 0) (suc (c + negative x)) (positive x + n) (λ h. omega (arith, sum x (pos n))) (λ h. omega (arith, sum x (pos n))) in
     rw (from, to)
 
--- a clipped stretch
+-- a clipped interval
 module _ (x w : ℤ) (side : ℕ) where
   pub clip-covers : {c : ℕ} → c < side → between (clippedAxis x w side .from) (clippedAxis x w side .to) c ≡ covers x w c
   unfolding clippedAxis

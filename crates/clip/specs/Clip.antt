@@ -6,7 +6,7 @@ use lib.Signed.{leZ, ltZ}
 use Rattle.clip.specs.declared.Span.{Span}
 use Rattle.clip.specs.declared.Rect.{Rect}
 
--- the nearest number of 0 .. side
+-- the number in 0 .. side nearest to an integer
 abbrev pub nearest : ℤ → ℕ → ℕ
 nearest (pos n) side = min n side
 nearest (negsuc n) side = 0

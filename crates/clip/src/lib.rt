@@ -16,7 +16,7 @@ pub struct Rect {
     pub y1: u32,
 }
 
-// The number of 0..=side that is nearest to z.
+// The number in 0..=side nearest to z.
 pub fn clamp(z: i64, side: u32) -> u32
     ensures { λ r. ⌜ r ≡ nearest z side ⌝ }
 {

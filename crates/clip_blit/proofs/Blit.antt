@@ -1,5 +1,5 @@
--- A clipped blit draws just the coordinates of the destination that lie in its box and whose source coordinates lie inside
--- the source, and takes each from its own. Assumes nothing.
+-- A clipped blit draws exactly the coordinates of the destination that lie in its box and whose source coordinates lie inside the
+-- source, each from its own source coordinate. Assumes nothing.
 use mathlib.Core.Path.{_≡_, refl, sym, _∙_, ap}
 use mathlib.Core.Bool.{Bool, true, false, _&&_, cond, true≢false, and-true, and-false}
 use Prim.Native.Nat.{ℕ, _+_, _-_, _≤_, _<_}
@@ -21,7 +21,7 @@ use Rattle.clip.specs.Clip.{nearest, covers, clippedAxis}
 use Rattle.clip_blit.specs.Blit.{sourceAt, inside, drawnAlong, drawnAt, shifted, placed, nothing, blitAxis, blitRect}
 use Rattle.clip.proofs.Clip.{clip-covers, clip-within}
 
--- The stretch b lies on the destination and its source on the source; it holds the drawn coordinates, each with its own source.
+-- The interval b lies on the destination and its source on the source; it holds the drawn coordinates, each with its own source.
 pub record Clipped (d s w : ℤ) (dst-side src-side : ℕ) (b : BlitSpan) : Type 0 where
   pub ordered : b .from ≤ b .to
   pub within : b .to ≤ dst-side
@@ -33,7 +33,7 @@ inside-parts : (z : ℤ) (side : ℕ) → inside z side ≡ true → (negative z
 inside-parts (pos k) side e = (refl, bounds 0 side k e .1)
 inside-parts (negsuc k) side e = absurd (true≢false (sym e))
 
--- what is taken for a drawn coordinate is inside the source
+-- the source coordinate of a drawn coordinate is inside the source
 pub drawn-source : (d s w : ℤ) (src-side i : ℕ) → drawnAlong d s w src-side i ≡ true → positive (sourceAt d s i) < src-side
 drawn-source d s w src-side i e = inside-parts (sourceAt d s i) src-side (both (covers d w i) (inside (sourceAt d s i) src-side) e .1) .1
 
@@ -51,7 +51,7 @@ cut-inside s w side (pos k) = by (where-is 0 side k)
 source-parts : (d s : ℤ) (i : ℕ) → positive (sourceAt d s i) + (positive d + negative s) ≡ (i + negative d + positive s) + negative (sourceAt d s i)
 source-parts d s i = omega (arith, difference (pos i) d, sum (pos i -ℤ d) s)
 
--- source coordinates follow each other as destination coordinates do
+-- source coordinates have the same order as destination coordinates
 source-next : (d s : ℤ) (from i : ℕ) → from ≤ i → negative (sourceAt d s from) ≡ 0 → pos (positive (sourceAt d s from) + (i - from)) ≡ sourceAt d s i
 source-next d s from i h e = eq-parts (pos (positive (sourceAt d s from) + (i - from))) (sourceAt d s i) (omega (arith, source-parts d s from, source-parts d s i))
 
@@ -89,7 +89,7 @@ module _ (d s : ℤ) (i : ℕ) where
         eq-parts (pos (cut .from) +ℤ (pos i -ℤ start)) z
         (omega (arith, source-parts d s i, start-parts, difference (pos i) start, sum (pos (cut .from)) (pos i -ℤ start)))
 
--- the stretch before it is asked whether it is empty
+-- the interval before the test whether it is empty
 module _ (d s w : ℤ) (dst-side src-side : ℕ) where
   abbrev source : Span
   source = clippedAxis s w src-side
@@ -139,7 +139,7 @@ module _ (d s w : ℤ) (dst-side src-side : ℕ) where
   unfolding blitAxis
   blit-clipped = picked (ltb (on .from) (on .to)) refl
 
-  -- the definition at the values of its steps, as code holds them
+  -- the definition, at the values that the code computes
   module _ {cut : Span} {from to : ℕ} (is-cut : cut ≡ clippedAxis s w src-side) (is-from : from ≡ nearest (shifted d s cut) dst-side) (is-to : to ≡ nearest (shifted d s cut +ℤ (pos (cut .to) -ℤ pos (cut .from))) dst-side) where
     abbrev first : ℤ
     first = pos (cut .from) +ℤ (pos from -ℤ shifted d s cut)

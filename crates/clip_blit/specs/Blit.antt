@@ -1,4 +1,4 @@
--- The part of a blit that is drawn, one axis at a time, and where in the source it is taken from.
+-- The part of a blit that is drawn, one axis at a time, and where in the source its pixels are.
 use mathlib.Core.Bool.{Bool, _&&_, cond}
 use Prim.Native.Nat.{ℕ}
 use lib.Dec.{ltb}
@@ -10,7 +10,7 @@ use Rattle.clip_blit.specs.declared.BlitSpan.{BlitSpan}
 use Rattle.clip_blit.specs.declared.BlitRect.{BlitRect}
 use Rattle.clip.specs.Clip.{covers, clippedAxis}
 
--- the source coordinate taken for the destination coordinate i, over the integers
+-- the source coordinate of the destination coordinate i, over the integers
 abbrev pub sourceAt : ℤ → ℤ → ℕ → ℤ
 sourceAt d s i = pos i -ℤ d +ℤ s
 
@@ -30,11 +30,11 @@ drawnAt dx dy sx sy w h src-w src-h c r = drawnAlong dx sx w src-w c && drawnAlo
 abbrev pub shifted : ℤ → ℤ → Span → ℤ
 shifted d s cut = d +ℤ (pos (cut .from) -ℤ s)
 
--- the cut source where it is drawn, clipped to the destination
+-- the clipped source at its place on the destination, clipped again to the destination
 abbrev pub placed : ℤ → ℤ → Span → ℕ → Span
 placed d s cut dst-side = clippedAxis (shifted d s cut) (pos (cut .to) -ℤ pos (cut .from)) dst-side
 
--- an empty stretch
+-- an empty interval
 abbrev pub nothing : BlitSpan
 nothing = record { from = 0; to = 0; src = 0 }
 

@@ -1,4 +1,4 @@
-// Which part of a blit is drawn, and where in the source it is taken from. Coordinates are summed exactly.
+// The part of a blit that is drawn, and where in the source its pixels are. Coordinates are summed exactly.
 ghost use mathlib.Core.Path.{_≡_};
 ghost use Rattle.clip_blit.specs.Blit.{blitAxis, blitRect};
 
@@ -19,7 +19,7 @@ pub struct BlitRect {
     pub src_y0: u32,
 }
 
-// What a blit from s to d, w long, draws of one axis, and the source coordinate of its first.
+// Clips one axis of a blit from s to d, w long: the coordinates that are drawn, and the source coordinate of the first.
 pub fn clip_blit_axis(d: i32, s: i32, w: i32, dst_side: u32, src_side: u32) -> BlitSpan
     ensures { λ r. ⌜ r ≡ blitAxis d s w «dst_side» «src_side» ⌝ }
 {
@@ -40,7 +40,7 @@ pub fn clip_blit_axis(d: i32, s: i32, w: i32, dst_side: u32, src_side: u32) -> B
     BlitSpan { from, to, src }
 }
 
-// What a blit of a box draws, and the source coordinates of its first column and row.
+// Clips a blit of a box: the columns and rows that are drawn, and the source coordinates of the first column and row.
 pub fn clip_blit(
     dx: i32,
     dy: i32,

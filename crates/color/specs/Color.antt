@@ -1,4 +1,4 @@
--- Colours as numbers: the COLORREF, the RGB565 word and the RGB555 word, and what leads from one to another.
+-- Colours as numbers: the COLORREF, the RGB565 word and the RGB555 word, and the conversions between them.
 use Prim.Native.Nat.{ℕ, _+_, _*_, _/_, _%_}
 
 -- the red channel of a COLORREF, 0x00BBGGRR
@@ -33,15 +33,15 @@ green6 p = p / 32 % 64
 abbrev pub blue5 : ℕ → ℕ
 blue5 p = p % 32
 
--- widening repeats the high bits of red, 8·r + r/4, the quotient rounded down
+-- widening repeats the high bits: red is 8·r + r/4, quotients rounded down
 unfoldable pub wideRed : ℕ → ℕ
 wideRed p = 8 * red5 p + red5 p / 4
 
--- of green, 4·g + g/16
+-- widened green is 4·g + g/16
 unfoldable pub wideGreen : ℕ → ℕ
 wideGreen p = 4 * green6 p + green6 p / 16
 
--- and of blue, 8·b + b/4
+-- widened blue is 8·b + b/4
 unfoldable pub wideBlue : ℕ → ℕ
 wideBlue p = 8 * blue5 p + blue5 p / 4
 

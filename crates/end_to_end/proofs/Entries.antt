@@ -1,4 +1,4 @@
--- What both entries have: each call is that of the device, or refused and everything as it was. Assumes nothing.
+-- What both functions do with a call: they make it on the encoded device, or refuse it and change nothing. Assumes nothing.
 use mathlib.Core.Bool.{Bool, true, false, cond}
 use mathlib.Core.List.{List, [], _∷_}
 use mathlib.Core.Path.{_≡_, refl, sym, _∙_, ap, ap₂, subst}
@@ -31,14 +31,14 @@ use Rattle.end_to_end.proofs.Replies.{reply-same}
 abbrev flat : List ℕ → Memories → FlatDevice
 flat l ms = record { numbers = l; memories = ms }
 
--- Both are no record, or both are one and the same, lent with memories of equal lengths.
+-- Neither list of numbers is a record, or both encode the same record; the memories have equal lengths.
 pub data SameRecord (s t : FlatDevice) : Type 0 where
   no-record : isRecord (s .numbers) ≡ false → isRecord (t .numbers) ≡ false → SameRecord s t
   record-of : isRecord (s .numbers) ≡ true → isRecord (t .numbers) ≡ true → view (s .numbers) ≡ view (t .numbers)
       → length (s .memories .panel) ≡ length (t .memories .panel) → length (s .memories .store) ≡ length (t .memories .store) → SameRecord s t
 
--- What is asked of an entry. Where every call is refused, everything is as it was; calls on a record are made on the device that it
--- is. The answer follows from the record and the lengths, and so do the numbers afterwards from those before.
+-- What must hold of such a function: where every call is refused, it changes nothing; calls on a record are made on the device that
+-- it encodes; the answer follows from the record and the lengths; and so do the numbers afterwards from those before.
 pub record Lawful (e : Entry) : Type 0 where
   pub refuses : (c : e .Argument) (s t : FlatDevice) (a : e .Answer) → (refusesAllOn s ≡ 0 → ⊥) → e .Promises c s a t → t ≡ s
   pub stays-record : (c : e .Argument) (s t : FlatDevice) (a : e .Answer) → isRecord (s .numbers) ≡ true → e .Promises c s a t → isRecord (t .numbers) ≡ true
@@ -49,11 +49,11 @@ pub record Lawful (e : Entry) : Type 0 where
 
 -- ---- a plan that was followed
 
--- refused, everything is as it was
+-- a refused plan changes nothing
 followed-refused : {p : Plan} {s t : FlatDevice} {a : Parts} → (a .number ≡ 0 → ⊥) → Followed p (s .numbers) (s .memories) a (t .numbers) (t .memories) → t ≡ s
 followed-refused ne f = ap₂ flat (f .kept ne .0) (f .kept ne .1)
 
--- numbers that were a record are one
+-- numbers that encode a record do so afterwards
 followed-record : {p : Plan} {l l′ : List ℕ} {ms ms′ : Memories} {a : Parts} → isRecord l ≡ true → Followed p l ms a l′ ms′ → isRecord l′ ≡ true
 followed-record {p} {l} {l′} {ms} {ms′} {a} good f = by (ℕ-discrete (a .number) 0)
   where
@@ -138,9 +138,9 @@ perform-lawful =
       numbers = perform-numbers;
     }
 
--- ---- the C entry: numbers that are no call are refused, others are performed
+-- ---- the C function: numbers that are no call are refused, others are performed
 
--- what is promised of numbers that were read as q
+-- the promise for numbers that were parsed as q
 abbrev HostedAs : ParsedCall → (us : List ℕ) → FlatDevice → Reply → FlatDevice → Type 0
 HostedAs q us s r t =
     Replied (planRead q us (s .numbers) (s .memories) .outcome .answer) r
@@ -162,7 +162,7 @@ unfolding run
 host-makes NoCall us s t r e w h = ap deviceOf (no-call-stays us h)
 host-makes (Is c) us s t r e w h = perform-makes (invocation c us) s t _ e (record { performed = h .1; words = w })
 
--- the answer that is replied
+-- the answer in a reply
 host-parts : (q : ParsedCall) (us : List ℕ) (s t s′ t′ : FlatDevice) (r r′ : Reply) → SameRecord s t → Words32 (s′ .numbers) → Words32 (t′ .numbers) → HostedAs q us s r s′ → HostedAs q us t r′ t′
     → planRead q us (s .numbers) (s .memories) .outcome .answer ≡ planRead q us (t .numbers) (t .memories) .outcome .answer
 host-parts NoCall us s t s′ t′ r r′ same w w′ h j = refl

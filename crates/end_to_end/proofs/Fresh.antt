@@ -1,4 +1,4 @@
--- Two devices opened with the same sides on numbers and memories of equal lengths agree with no pixel tainted, whatever was held.
+-- Two devices opened with the same sides, on numbers and memories of equal lengths, agree at every pixel, whatever was there before.
 -- Assumes nothing.
 use mathlib.Core.Bool.{Bool, true, false, cond, true≢false}
 use mathlib.Core.List.{List}
@@ -44,7 +44,7 @@ use Rattle.end_to_end.proofs.Snapshots.{Settled}
 abbrev pub nothing : Taint
 nothing u x y = ⊥
 
--- a blanked range that fits keeps the length, and holds the same as another
+-- a blanked range inside a memory keeps the length, and is equal to any other blanked range
 blanked-length : (l : List ℕ) (n : ℕ) → n ≤ length l → length (blanked l 0 n) ≡ length l
 blanked-length l n f = length-with l (replicate n 0) 0 n (length-replicate n 0) (omega (arith, f))
 
@@ -84,7 +84,7 @@ module _ (w h : ℕ) (ms ns : Memories) (pl : length (ms .panel) ≡ length (ns 
             rw (← pl, ← sl) (fresh-same (a refl) (length (ms .panel)) (length (ms .store)) u x y (both (eqb (refusesAll (left true w h ms)) 0) _ i .1));
       }
 
--- from the contract of one open
+-- what follows from the contract of one open
 module _ {w h : ℕ} {s t : FlatDevice} {n : ℕ} (o : Opened w h (s .numbers) (s .memories) n (t .numbers) (t .memories)) where
   open-accepted : eqb n 0 ≡ true → Accepted w h (length (s .memories .panel)) (length (s .memories .store))
   open-accepted z = by (eqb (length (s .numbers)) recordSize) (sym (eqb-true n 0 z) ∙ o .answer)
@@ -96,7 +96,7 @@ module _ {w h : ℕ} {s t : FlatDevice} {n : ℕ} (o : Opened w h (s .numbers) (
   opened-device : length (s .numbers) ≡ recordSize → deviceOf t ≡ left (eqb n 0) w h (s .memories)
   opened-device long = λ i. device (o .numbers long .same i) (memories (o .panel i) (o .store i))
 
-  -- numbers that no record fits: nothing changes
+  -- too few or too many numbers: nothing changes
   misfit-panel : (length (s .numbers) ≡ recordSize → ⊥) → t .memories .panel ≡ s .memories .panel
   misfit-panel ne = o .panel ∙ rw (o .answer, ne-eqb (length (s .numbers)) recordSize ne)
 

@@ -1,4 +1,5 @@
--- Lists of calls through an entry are those of the devices, so that what holds of devices holds of what callers lend. Assumes nothing.
+-- A list of calls through either function is a list of calls on the encoded device, so that the claim holds of what callers lend.
+-- Assumes nothing.
 use mathlib.Core.Bool.{Bool, true, false, true≢false}
 use mathlib.Core.List.{List, _∷_, _++_}
 use mathlib.Core.Path.{_≡_, refl, sym, _∙_, ap, ap₂, subst, subst₂}
@@ -19,14 +20,14 @@ use Rattle.noninterference.proofs.After.{taint-append}
 use Rattle.end_to_end.specs.Lists.{FlatDevice, deviceOf, refusesAllOn, isPixelOn, colourOn, EqualBut, Entry, throughPerform, throughHost, Made, none, call, callsOf, ListsAgree}
 use Rattle.end_to_end.proofs.Entries.{SameRecord, no-record, record-of, no-record-refuses, served-record, Lawful, perform-lawful, host-lawful}
 
--- Memories of equal lengths; both are no record, or both are one, and the devices agree but for tainted pixels.
+-- Memories of equal lengths; neither list of numbers is a record, or both are and the devices agree except at tainted pixels.
 pub record Linked (m : Taint) (s t : FlatDevice) : Type 0 where
   pub panels : length (s .memories .panel) ≡ length (t .memories .panel)
   pub stores : length (s .memories .store) ≡ length (t .memories .store)
   pub records : isRecord (s .numbers) ≡ isRecord (t .numbers)
   pub agree : isRecord (s .numbers) ≡ true → Agree m (deviceOf s) (deviceOf t)
 
--- where there is no record, marks have no effect
+-- where there is no record, taint has no effect
 lost : {m k : Taint} {s t : FlatDevice} → isRecord (s .numbers) ≡ false → Linked m s t → Linked k s t
 lost e l = record { panels = l .panels; stores = l .stores; records = l .records; agree = λ z. absurd (true≢false (sym z ∙ e)) }
 
@@ -37,7 +38,7 @@ same-record {m} {s} {t} l = by (isRecord (s .numbers)) refl
     by true e = record-of e (sym (l .records) ∙ e) (l .agree e .states) (l .panels) (l .stores)
     by false e = no-record e (sym (l .records) ∙ e)
 
--- what follows from the record and the lengths, and from nothing where there is no record, is the same of both
+-- what follows from the record and the lengths, or from neither where there is no record, is the same on both
 pub linked-same : {A : Type 0} {m : Taint} {s t : FlatDevice} → Linked m s t → (f : Bool → GdiState → (panel-len store-len : ℕ) → A)
     → ((b b′ : GdiState) (n k n′ k′ : ℕ) → f false b n k ≡ f false b′ n′ k′)
     → f (isRecord (s .numbers)) (view (s .numbers)) (length (s .memories .panel)) (length (s .memories .store))
@@ -57,7 +58,7 @@ linked-pixels {s = s} l u x y i n =
     let e = served-record s (eqb-true (refusesAllOn s) 0 (both (eqb (refusesAllOn s) 0) _ i .0)) in
     l .agree e .pixels u x y (rw e at i) n
 
--- equal but for tainted pixels is linked with equal numbers
+-- flat devices that are equal except at tainted pixels are linked, and have equal numbers
 pub linked-of : {m : Taint} {s t : FlatDevice} → EqualBut m s t → Linked m s t
 linked-of {s = s} q =
     record {
@@ -71,18 +72,18 @@ equal-of : {m : Taint} {s t : FlatDevice} → s .numbers ≡ t .numbers → Link
 equal-of n l = record { numbers = n; panels = l .panels; stores = l .stores; pixels = linked-pixels l }
 
 module _ (e : Entry) (law : Lawful e) where
-  -- where every call is refused, everything is as it was
+  -- where every call is refused, nothing changes
   pub made-refused : {cs : List (e .Argument)} {s t : FlatDevice} {rs : List (e .Answer)} → (refusesAllOn s ≡ 0 → ⊥) → Made e cs s rs t → t ≡ s
   made-refused ne none = refl
   made-refused ne (call {c = c} {s = s} {t = t} {a = a} x xs) =
       let q = law .refuses c s t a ne x in
       made-refused (λ z. ne (ap refusesAllOn (sym q) ∙ z)) xs ∙ q
 
-  -- numbers that are no record stay, with the memories
+  -- numbers that are no record are kept, with the memories
   stays : {c : e .Argument} {s t : FlatDevice} {a : e .Answer} → isRecord (s .numbers) ≡ false → e .Promises c s a t → t ≡ s
   stays {c} {s} {t} {a} f x = law .refuses c s t a (no-record-refuses s f) x
 
-  -- a record stays one, and the calls are made on the device
+  -- numbers that are a record stay one, and the calls are made on the device
   made-makes : {cs : List (e .Argument)} {s t : FlatDevice} {rs : List (e .Answer)} → isRecord (s .numbers) ≡ true → Made e cs s rs t
       → (isRecord (t .numbers) ≡ true) × (deviceOf t ≡ run (callsOf e cs) (deviceOf s) .1)
   unfolding run callsOf
@@ -91,7 +92,7 @@ module _ (e : Entry) (law : Lawful e) where
       let (g, q) = made-makes (law .stays-record c s t a f x) xs in
       (g, q ∙ ap (λ (d : Device). run (callsOf e cs) d .1) (law .makes c s t a f x) ∙ sym (run-append (e .calls c) (callsOf e cs) (deviceOf s)))
 
-  -- one call on two that are linked
+  -- one call on two linked flat devices
   step-linked : {m : Taint} {c : e .Argument} {s t s′ t′ : FlatDevice} {a b : e .Answer} → Linked m s t → e .Promises c s a s′ → e .Promises c t b t′
       → Linked (taintOn (e .calls c) (deviceOf s) m) s′ t′
   step-linked {m} {c} {s} {t} {s′} {t′} {a} {b} l x y = by (isRecord (s .numbers)) refl
@@ -108,7 +109,7 @@ module _ (e : Entry) (law : Lawful e) where
           let g : isRecord (t .numbers) ≡ false = sym (l .records) ∙ f in
           subst₂ (λ (p q : FlatDevice). Linked (taintOn (e .calls c) (deviceOf s) m) p q) (sym (stays f x)) (sym (stays g y)) (lost f l)
 
-  -- the marks of a call and then of a list are those of the longer list, where they have an effect
+  -- the taint after a call and then a list is that after the longer list, where it has an effect
   taint-then : (m : Taint) {c : e .Argument} {cs : List (e .Argument)} {s s′ t t′ : FlatDevice} {a : e .Answer} {rs : List (e .Answer)} → e .Promises c s a s′ → Made e cs s′ rs t
       → Linked (taintOn (callsOf e cs) (deviceOf s′) (taintOn (e .calls c) (deviceOf s) m)) t t′ → Linked (taintOn (callsOf e (c ∷ cs)) (deviceOf s) m) t t′
   unfolding callsOf
@@ -123,7 +124,7 @@ module _ (e : Entry) (law : Lawful e) where
           let g : isRecord (s′ .numbers) ≡ false = ap (λ (z : FlatDevice). isRecord (z .numbers)) q ∙ f in
           lost (ap (λ (z : FlatDevice). isRecord (z .numbers)) (made-refused (no-record-refuses s′ g) xs) ∙ g) l
 
-  -- a list on two that are linked
+  -- a list on two linked flat devices
   pub made-linked : {m : Taint} {cs : List (e .Argument)} {s t s′ t′ : FlatDevice} {rs qs : List (e .Answer)} → Linked m s t → Made e cs s rs s′ → Made e cs t qs t′
       → (rs ≡ qs) × Linked (taintOn (callsOf e cs) (deviceOf s) m) s′ t′
   unfolding callsOf taintAfter
@@ -157,7 +158,7 @@ module _ (e : Entry) (law : Lawful e) where
         refuses = λ cs s s′ rs ne xs. made-refused ne xs;
       }
 
--- lists of calls through `perform`, and through the C entry
+-- lists of calls through `perform`, and through the C function
 pub perform-lists : ListsAgree throughPerform
 perform-lists = lists-agree throughPerform perform-lawful
 

@@ -1,4 +1,4 @@
--- From open to a saved screen, through `perform` and through the C entry. Assumes nothing.
+-- From open to a saved screen, through `perform` and through the C function. Assumes nothing.
 use mathlib.Core.Bool.{cond}
 use mathlib.Core.List.{List, [], _∷_, _++_}
 use mathlib.Core.Logic.{inl, inr}
@@ -16,11 +16,11 @@ use Rattle.end_to_end.proofs.Lists.{Linked, linked-same, linked-pixels,
 use Rattle.end_to_end.proofs.Fresh.{nothing, opened-linked, opened-settled}
 use Rattle.end_to_end.proofs.Snapshots.{Settled, same-snapshots}
 
--- what every call is refused with follows from the record and the lengths
+-- the number with which every call is refused follows from the record and the lengths
 refusals-same : {m : Taint} {s t : FlatDevice} → Linked m s t → refusesAllOn s ≡ refusesAllOn t
 refusals-same l = linked-same l (λ r b n k. cond r (commonRefusal b n k) 9) (λ b b′ n k n′ k′. refl)
 
--- two that are linked with no pixel tainted show the same
+-- two linked flat devices show the same if no pixel is tainted
 same-screen : {m : Taint} {s t : FlatDevice} → Linked m s t → Untainted m → Settled s → SameScreen s t
 same-screen {s = s} l clear settled =
     record {

@@ -100,7 +100,7 @@ number-same {t = t} l out out′ long wanted =
     linked-same l (λ r b n k. numberBy r b n (length out) wanted) (λ b b′ n k n′ k′. refl)
     ∙ ap (λ (got : ℕ). numberBy (isRecord (t .numbers)) (view (t .numbers)) (length (t .memories .panel)) got wanted) long
 
--- an unsound record is refused, and numbers that are none
+-- an unsound record is refused, and so are numbers that are no record
 nine-refused : (s : FlatDevice) (got : ℕ) (wanted : (width height : ℕ) → ℕ) → refusesAllOn s ≡ 9 → snapshotRefusal (s .numbers) (length (s .memories .panel)) got wanted ≡ 0 → ⊥
 unfolding snapshotRefusal commonRefusal
 nine-refused s got wanted = by (isRecord (s .numbers)) (isSound (view (s .numbers))) (eqb n (b .«panel_len»)) (eqb (length (s .memories .store)) (b .«store_len»))
@@ -122,7 +122,7 @@ nine-refused s got wanted = by (isRecord (s .numbers)) (isSound (view (s .number
     by true false p q e z = omega (arith, z)
     by false t p q e z = omega (arith, z)
 
--- The device is ready, or refuses every call with 9. One that refuses with 8 for the length of its store can still be saved.
+-- The device is ready, or refuses every call with 9. A device that refuses with 8 for the length of its store can still be saved.
 abbrev pub Settled : FlatDevice → Type 0
 Settled s = (refusesAllOn s ≡ 0) ⊎ (refusesAllOn s ≡ 9)
 

@@ -1,4 +1,4 @@
--- Lists of calls as callers make them: on a record in numbers, through `perform` or through the C entry.
+-- Lists of calls as callers make them: on a flat record, through `perform` or through the C function.
 use mathlib.Core.Bool.{Bool, true, _&&_}
 use mathlib.Core.List.{List, [], _∷_, _++_}
 use mathlib.Core.Path.{_≡_}
@@ -24,35 +24,35 @@ use Rattle.host_call.specs.Call.{callOf}
 use Rattle.host_reply.specs.declared.Reply.{Reply}
 use Rattle.host.specs.Host.{HostPerformed}
 
--- A flat device, what a caller keeps and lends with each call: the record as numbers, and the two memories.
+-- A flat device is what a caller keeps, and lends with each call: the record as numbers, and the two memories.
 pub record FlatDevice : Type 0 where
   pub numbers : List ℕ
   pub memories : Memories
 
--- the device that it is
+-- the device that it encodes
 abbrev pub deviceOf : FlatDevice → Device
 deviceOf s = device (view (s .numbers)) (s .memories)
 
--- 9 or 8, with which every call is refused; 0 if the device is ready
+-- the number with which every call is refused, 9 or 8; 0 if the device is ready
 abbrev pub refusesAllOn : FlatDevice → ℕ
 refusesAllOn s = commonRefusalOn (s .numbers) (length (s .memories .panel)) (length (s .memories .store))
 
--- a pixel of the device; one that refuses every call has none
+-- whether u has a pixel of the device at x, y; a device that refuses every call has no pixels
 abbrev pub isPixelOn : FlatDevice → SurfaceId → (x y : ℕ) → Bool
 isPixelOn s u x y = eqb (refusesAllOn s) 0 && hasPixel (whereIs (view (s .numbers)) u) x y
 
 abbrev pub colourOn : FlatDevice → SurfaceId → (x y : ℕ) → ℕ
 colourOn s u x y = colourAt (s .memories) (whereIs (view (s .numbers)) u) x y
 
--- Equal numbers, memories of equal lengths, and equal pixels except where tainted.
+-- Equal numbers, memories of equal lengths, and equal colours at every pixel that is not tainted.
 pub record EqualBut (m : Taint) (s t : FlatDevice) : Type 0 where
   pub numbers : s .numbers ≡ t .numbers
   pub panels : length (s .memories .panel) ≡ length (t .memories .panel)
   pub stores : length (s .memories .store) ≡ length (t .memories .store)
   pub pixels : (u : SurfaceId) (x y : ℕ) → isPixelOn s u x y ≡ true → (m u x y → ⊥) → colourOn s u x y ≡ colourOn t u x y
 
--- A function through which calls are made: its argument, its answer, what its contract promises of the two and of what was lent,
--- before and after, and which calls an argument is, one or none.
+-- A function through which calls are made: the type of its arguments and of its answers, what its contract promises of argument,
+-- answer and the device before and after, and the calls of an argument, one or none.
 pub record Entry : Type 1 where
   pub Argument : Type 0
   pub Answer : Type 0
@@ -83,7 +83,7 @@ pub record HostPromises (c : HostInvocation) (s : FlatDevice) (r : Reply) (t : F
   pub fields : Words32 (r .fields)
   pub fields-length : length (r .fields) ≡ objectSize
 
--- the calls that an argument is: numbers that are no call are none
+-- the calls of an argument: none, if its numbers are no call
 abbrev pub callsRead : ParsedCall → (units : List ℕ) → List Invocation
 callsRead NoCall us = []
 callsRead (Is c) us = record { call = c; units = us } ∷ []
@@ -91,7 +91,7 @@ callsRead (Is c) us = record { call = c; units = us } ∷ []
 abbrev pub throughHost : Entry
 throughHost = record { Argument = HostInvocation; Answer = Reply; Promises = HostPromises; calls = λ c. callsRead (callOf (c .call)) (c .units) }
 
--- A list of calls was made, each on what the last one left.
+-- A list of calls was made, each on the device that the one before it left.
 pub data Made (e : Entry) : List (e .Argument) → FlatDevice → List (e .Answer) → FlatDevice → Type 0 where
   none : {s : FlatDevice} → Made e [] s [] s
   call : {c : e .Argument} {cs : List (e .Argument)} {s t u : FlatDevice} {a : e .Answer} {rs : List (e .Answer)}
@@ -103,11 +103,11 @@ callsOf e [] = []
 callsOf e (c ∷ cs) = e .calls c ++ callsOf e cs
 
 pub record ListsAgree (e : Entry) : Type 1 where
-  -- Two callers lend the same but for tainted pixels, whatever the numbers and memories are, and make the same list of calls: all
-  -- answers are equal, and afterwards all numbers and every pixel left untainted.
+  -- Two callers hold equal numbers, and memories that are equal except at tainted pixels, and make the same list of calls: all
+  -- answers are equal, and afterwards all numbers and every untainted pixel. The numbers need not be a record.
   pub lists : (cs : List (e .Argument)) (m : Taint) (s t s′ t′ : FlatDevice) (rs qs : List (e .Answer))
       → EqualBut m s t → Made e cs s rs s′ → Made e cs t qs t′ → (rs ≡ qs) × EqualBut (taintOn (callsOf e cs) (deviceOf s) m) s′ t′
-  -- A ready device is ready after every list, so that the pixels do not go away.
+  -- A ready device is ready after every list, so that its pixels remain.
   pub stays-ready : (cs : List (e .Argument)) (s s′ : FlatDevice) (rs : List (e .Answer)) → refusesAllOn s ≡ 0 → Made e cs s rs s′ → refusesAllOn s′ ≡ 0
   -- A device that refuses every call keeps every number and every byte.
   pub refuses : (cs : List (e .Argument)) (s s′ : FlatDevice) (rs : List (e .Answer)) → (refusesAllOn s ≡ 0 → ⊥) → Made e cs s rs s′ → s′ ≡ s

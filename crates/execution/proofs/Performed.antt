@@ -1,4 +1,4 @@
--- A call that the code performed on a record lent as numbers is the step of the device that they are. Assumes nothing.
+-- A call that the code performed on a flat record is a step of the device that it encodes. Assumes nothing.
 use mathlib.Core.Bool.{true}
 use mathlib.Core.List.{List}
 use mathlib.Core.Path.{_≡_, sym, _∙_, ap, ap₂}
@@ -29,6 +29,6 @@ module _ (c : Invocation) (l : List ℕ) (ms : Memories) (good : isRecord l ≡ 
       ∙ sym (ap (λ (q : Plan). q .outcome .state)
       (refusals-keep (c .call) (c .units) (view l) (length (ms .panel)) (length (ms .store)) (λ z. ne (ap (λ (x : Parts). x .number) answer-is ∙ z))))
 
-  -- the answer is the step's, and so are record and memories afterwards
+  -- the answer, the record and the memories afterwards are those of the step
   pub performed-step : (a ≡ answer c (device (view l) ms) .answer) × (device (view l′) ms′ ≡ step c (device (view l) ms))
   performed-step = (answer-is, ap₂ device (state-is (ℕ-discrete (a .number) 0)) (p .memories ∙ rw plan-is))

@@ -1,4 +1,4 @@
--- What the plan of a call can be, and that each call's is. A law of all calls is proved by these four cases. Assumes nothing.
+-- The four shapes of a plan; every call's plan has one of them. A law of all calls is proved by these four cases. Assumes nothing.
 use mathlib.Core.Bool.{Bool, true, false, cond, _||_}
 use mathlib.Core.List.{List, [], _∷_}
 use mathlib.Core.Path.{_≡_, refl, sym, _∙_}
@@ -59,14 +59,15 @@ abbrev pub AllSourced : GdiState → List Stroke → Type 0
 AllSourced b [] = Unit
 AllSourced b (s ∷ ss) = Sourced b (s .drawing) × AllSourced b ss
 
--- Bytes of a memory are blanked, on the way from the record b to the record b′: they are inside the memory, each surface that is
--- cleared lies among them afterwards, every other lies off them and where it was, and b′ is ready where b was.
+-- Bytes of a memory are blanked, and the record b becomes b′: the bytes lie inside the memory; each surface that is cleared lies
+-- among them afterwards; every other surface stays in its place, apart from them; and b′ is ready if b is.
 pub record Blanks (b b′ : GdiState) (k : Memory) (p n : ℕ) (clears : SurfaceId → Bool) : Type 0 where
   pub fits : p + n ≤ lengthOf (b .«panel_len») (b .«store_len») k
   pub surfaces : isSound b ≡ true → (u : SurfaceId) → Blanked k p n (clears u) (whereIs b u) (whereIs b′ u)
   pub ready : (panel-len store-len : ℕ) → Ready b panel-len store-len → Ready b′ panel-len store-len
 
--- Nothing is painted, and every surface stays in its place; strokes are made; surfaces are new and black; a created object goes.
+-- The shapes: nothing is painted, and every surface stays in its place; strokes are made; surfaces are new and black; a created
+-- object is removed.
 pub data Shape (b : GdiState) : Plan → Type 0 where
   record-only : {p : Plan} → Unpainted b p → Shape b p
   strokes : (ss : List Stroke) (a : Parts) → AllSourced b ss → Shape b (drawnBy b ss a)
@@ -75,14 +76,14 @@ pub data Shape (b : GdiState) : Plan → Type 0 where
   deletion : (gone : ℕ → Parts) (none : Parts) (h i : ℕ) → isStock h ≡ false → findOf b h ≡ FoundAt i → Shape b (deletionAt gone none b h (FoundAt i))
 
 module _ (b : GdiState) where
-  -- a refusal, or an answer alone
+  -- a refusal, or an answer without a change
   unchanged : (a : Parts) → Shape b (recordOnly b a)
   unchanged a = record-only (record { paint = refl; still = still-same b })
 
   refused : (n : ℕ) → Shape b (refuse n b)
   refused n = unchanged _
 
-  -- an object more: its pixels are new and black
+  -- a creation: the new object's pixels are new and black
   new-object : (o : GdiObject) → objectFits o ≡ true → b .count < 256 → used b + bytesOf o ≤ b .«store_len» → Shape b (creation b o)
   new-object o fits few room =
       blanks (added b o) _ Store (used b) (bytesOf o) _ (record {
@@ -117,7 +118,7 @@ module _ (b : GdiState) where
       by false e (FoundAt i) f = deletion gone none h i e f
       by false e Nothing f = unchanged none
 
-  -- a blit takes only pixels of its source
+  -- a blit reads only pixels of its source
   source-inside : (at : Place) (x y : ℕ) → x < widthOf at → y < heightOf at → hasPixel at x y ≡ true
   source-inside Nowhere x y e f = absurd (omega (arith, e))
   source-inside (At m p w h) x y e f = together (lt-ltb x w e) (lt-ltb y h f)
@@ -163,7 +164,7 @@ module _ (b : GdiState) where
         };
       })
 
-  -- a line for each call
+  -- one line for each call
   pub act-shape : (c : Call) (us : List ℕ) → Shape b (act c us b)
   unfolding act
   act-shape CreateMemoryDc us = create-shape _ refl

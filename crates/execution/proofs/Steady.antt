@@ -1,4 +1,4 @@
--- Every call keeps the memories' lengths, and leaves a sound record if it found one. Assumes nothing.
+-- Every call keeps the memories' lengths, and leaves a sound record sound. Assumes nothing.
 use mathlib.Core.List.{List, [], _∷_}
 use mathlib.Core.Path.{_≡_, refl, sym, _∙_, subst}
 use Prim.Native.Nat.{ℕ, _+_, _≤_}
@@ -23,7 +23,7 @@ use Rattle.plan.specs.Stroke.{Stroke, paintsOf}
 use Rattle.plan.proofs.Strokes.{dirtied-by-still}
 use Rattle.execution.proofs.Shape.{Shape, record-only, strokes, blanks, deletion}
 
--- These paints keep the memories' lengths, and the record b′ after them is ready where b is.
+-- These paints keep the memories' lengths, and the record b′ after them is ready if b is.
 pub record Steady (b : GdiState) (ps : List Paint) (b′ : GdiState) : Type 0 where
   pub panel : (ms : Memories) → ReadyWith b ms → length (after b ps ms .panel) ≡ length (ms .panel)
   pub store : (ms : Memories) → ReadyWith b ms → length (after b ps ms .store) ≡ length (ms .store)

@@ -1,4 +1,5 @@
--- Lists of calls: one after another, the lengths kept, readiness kept, and refusals of everything. Assumes nothing.
+-- Lists of calls: they can be joined, they keep the memories' lengths and readiness, and a device that refuses every call. Assumes
+-- nothing.
 use mathlib.Core.Bool.{Bool, true, false, cond}
 use mathlib.Core.List.{List, [], _∷_, _++_}
 use mathlib.Core.Path.{_≡_, refl, _∙_, ap}
@@ -61,7 +62,7 @@ unfolding run
 run-refused [] s ne = refl
 run-refused (c ∷ cs) s ne = ap (λ (t : Device). run cs t .1) (step-refused c s ne) ∙ run-refused cs s ne
 
--- one list after another
+-- two lists in turn are the joined list
 pub run-append : (cs ds : List Invocation) (s : Device) → run (cs ++ ds) s .1 ≡ run ds (run cs s .1) .1
 unfolding run
 run-append [] ds s = refl

@@ -14,7 +14,7 @@ use Rattle.plan.specs.declared.Call.{Call}
 use Rattle.plan.specs.Plan.{Outcome, Plan}
 use Rattle.plan.specs.Calls.{planOf}
 
--- A device (document 01: bench): its record, and the memories lent with it.
+-- A device (document 01: bench): its record, and the two memories lent with it.
 pub record Device : Type 0 where
   pub state : GdiState
   pub memories : Memories
@@ -22,15 +22,15 @@ pub record Device : Type 0 where
 abbrev pub device : GdiState → Memories → Device
 device b ms = record { state = b; memories = ms }
 
--- 9 or 8, with which it refuses every call; 0 if it is ready
+-- the number with which the device refuses every call, 9 or 8; 0 if it is ready
 abbrev pub refusesAll : Device → ℕ
 refusesAll s = commonRefusal (s .state) (length (s .memories .panel)) (length (s .memories .store))
 
--- a pixel of the device; a device that refuses every call has none
+-- whether u has a pixel of the device at x, y; a device that refuses every call has no pixels
 abbrev pub isPixel : Device → SurfaceId → (x y : ℕ) → Bool
 isPixel s u x y = eqb (refusesAll s) 0 && hasPixel (whereIs (s .state) u) x y
 
--- A call as it is made: a text with its units.
+-- A call with its units; only a text looks at them.
 pub record Invocation : Type 0 where
   pub call : Call
   pub units : List ℕ
@@ -38,14 +38,14 @@ pub record Invocation : Type 0 where
 abbrev pub planFor : Invocation → Device → Plan
 planFor c s = planOf (c .call) (c .units) (s .state) (s .memories)
 
--- what a call answers, with the record after it; and the device after it
+-- the answer of a call with the record after it; the device after it
 abbrev pub answer : Invocation → Device → Outcome
 answer c s = planFor c s .outcome
 
 abbrev pub step : Invocation → Device → Device
 step c s = device (answer c s .state) (after (s .state) (planFor c s .paint) (s .memories))
 
--- a list of calls, each on what the last one left: the answers, and the device at the end
+-- a list of calls, each on the device that the one before it left: the answers, and the device at the end
 unfoldable pub run : List Invocation → Device → List Outcome × Device
 run [] s = ([], s)
 run (c ∷ cs) s = (answer c s ∷ run cs (step c s) .0, run cs (step c s) .1)

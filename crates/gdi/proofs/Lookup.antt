@@ -1,4 +1,4 @@
--- The cases of looking a DC up. Assumes nothing.
+-- The cases of the lookup of a DC. Assumes nothing.
 use mathlib.Core.Path.{_≡_}
 use Prim.Native.Nat.{ℕ}
 use borrow.Author.Tests.{eq-eqb, ne-eqb}

@@ -18,7 +18,7 @@ use Rattle.gdi.specs.declared.Found.the-variants.{At, Nothing}
 use Rattle.gdi.specs.declared.DcFound.the-variants.{Is}
 use Rattle.gdi.specs.Lookup.{handleAt, objectAt, scan, findOf, dcAt, dcFound, dcOf}
 
--- the scan's steps, as the loop of `find` takes them
+-- the steps of the scan, as the loop of `find` makes them
 module _ (l : List Slot) (h i n : ℕ) where
   pub hit : i < n → handleAt l i ≡ h → scan l h i (n - i) ≡ At i
   unfolding scan
@@ -35,7 +35,7 @@ module _ (l : List Slot) (h i n : ℕ) where
   pub start : i ≡ 0 → scan l h 0 (n - 0) ≡ scan l h 0 n
   start z = let m : n - 0 ≡ n = omega arith in rw m
 
--- it goes by the handles alone
+-- the scan depends on the handles alone
 pub scan-same : (l l′ : List Slot) (h k m : ℕ) → ((j : ℕ) → handleAt l′ j ≡ handleAt l j) → scan l′ h k m ≡ scan l h k m
 unfolding scan
 scan-same l l′ h k zero e = refl
@@ -51,7 +51,7 @@ scan-below l h k {i} (suc m) e = by (eqb (handleAt l k) h) e (λ f. scan-below l
     by true f rec = let z : k ≡ i = cc in omega arith
     by false f rec = omega (arith, rec f)
 
--- it has the handle
+-- the slot that is found has the handle
 pub scan-handle : (l : List Slot) (h k m : ℕ) {i : ℕ} → scan l h k m ≡ At i → handleAt l i ≡ h
 unfolding scan
 scan-handle l h k zero e = let z : _≡_ {A = ℕ} 0 1 = cc in absurd (omega arith)
@@ -64,7 +64,7 @@ scan-handle l h k (suc m) {i} e = by (eqb (handleAt l k) h) refl e (λ f. scan-h
 pub found-count : (b : GdiState) (h : ℕ) {i : ℕ} → findOf b h ≡ At i → i < b .count
 found-count b h e = omega (arith, scan-below (b .objects) h 0 (b .count) e)
 
--- a created DC stands in the slot of its handle
+-- a created DC is in the slot of its handle
 pub dc-found : (b : GdiState) (h : ℕ) {i : ℕ} {d : Dc} → dcOf b h ≡ Is (Created i) d → (findOf b h ≡ At i) × (objectAt b i ≡ DcOf d)
 unfolding dcOf
 dc-found b h {i} {d} e = by-test (eqb h 0xDEAD_0DC0) e

@@ -18,7 +18,7 @@ use Rattle.gdi.specs.declared.DcFound.the-variants.{Is, Absent}
 use Rattle.gdi.specs.Record.{noSlot}
 use Rattle.gdi.specs.Stock.{stockKind}
 
--- slot i, its handle, and its object
+-- slot i of a record; the handle in slot i of a table; the object in slot i
 abbrev pub slotAt : GdiState → ℕ → Slot
 slotAt b i = getD (b .objects) i noSlot
 
@@ -28,7 +28,7 @@ handleAt l i = getD l i noSlot .handle
 abbrev pub objectAt : GdiState → ℕ → GdiObject
 objectAt b i = slotAt b i .object
 
--- the first of the m slots from k on that has the handle h
+-- the first of the m slots from slot k on that has the handle h
 unfoldable pub scan : List Slot → (h k m : ℕ) → Found
 scan l h k zero = Nothing
 scan l h k (suc m) = cond (eqb (handleAt l k) h) (At k) (scan l h (suc k) m)
@@ -37,7 +37,7 @@ scan l h k (suc m) = cond (eqb (handleAt l k) h) (At k) (scan l h (suc k) m)
 abbrev pub findOf : GdiState → ℕ → Found
 findOf b h = scan (b .objects) h 0 (b .count)
 
--- the object in slot i, as a DC
+-- the object in slot i, if it is a DC
 abbrev pub dcAt : ℕ → GdiObject → DcFound
 dcAt i (DcOf d) = Is (Created i) d
 dcAt i (BitmapOf x) = Absent

@@ -1,4 +1,4 @@
--- The device record: sizes, records by their fields, fresh records, vacant slots.
+-- The record of a device: sizes, records by their fields, fresh records, vacant slots.
 use mathlib.Core.Bool.{Bool, false}
 use mathlib.Core.List.{List}
 use Prim.Native.Nat.{ℕ, _*_}
@@ -19,7 +19,7 @@ use Rattle.gdi.specs.declared.GdiState.{GdiState}
 abbrev pub size : ℕ → ℕ → ℕ
 size w h = 2 * (w * h)
 
--- the bytes of an object's pixels: only bitmaps have some
+-- how many bytes an object's pixels have: only bitmaps have pixels
 abbrev pub bytesOf : GdiObject → ℕ
 bytesOf (DcOf d) = 0
 bytesOf (BitmapOf m) = size (m .width) (m .height)
@@ -90,11 +90,11 @@ defaultDc = dcOn Memory
 abbrev pub screenDc : Dc
 screenDc = dcOn Screen
 
--- what the logic reads past the end of a table: the first variant, of zeros
+-- what the logic reads past the end of a table: an object of the first variant, all zeros
 abbrev pub noSlot : Slot
 noSlot = record { handle = 0; object = DcOf (dcWith Screen Unset 0 0 0 (record { 0 = 0 }) (record { 0 = 0 }) (record { 0 = 0 }) 0 (record { 0 = 0 }) false) }
 
--- what a slot holds that no object has
+-- what a slot without an object holds
 abbrev pub vacantSlot : Slot
 vacantSlot = record { handle = 0; object = Brush (record { color = record { 0 = 0 } }) }
 

@@ -1,4 +1,4 @@
--- A record, a bitmap and a DC with one part changed. There is no other way to change one.
+-- A record, a bitmap and a DC with one part changed. Every change of a record is written with these.
 use mathlib.Core.Bool.{Bool, true}
 use mathlib.Core.List.{List}
 use Prim.Native.Nat.{ℕ}
@@ -22,7 +22,7 @@ withSides b w h = stateWith (b .«panel_len») (b .«store_len») w h (b .«fram
 abbrev pub withFrames : GdiState → ℕ → GdiState
 withFrames b n = stateWith (b .«panel_len») (b .«store_len») (b .width) (b .height) n (b .«next_handle») (b .screen) (b .«stock_dirty») (b .count) (b .objects)
 
--- the record with the stock bitmap's mark
+-- the record with the stock bitmap's dirty mark set
 abbrev pub withStockDirty : GdiState → GdiState
 withStockDirty b = stateWith (b .«panel_len») (b .«store_len») (b .width) (b .height) (b .«frame_counter») (b .«next_handle») (b .screen) true (b .count) (b .objects)
 
@@ -34,12 +34,12 @@ withObjects b next count l = stateWith (b .«panel_len») (b .«store_len») (b 
 abbrev pub withScreen : GdiState → Dc → GdiState
 withScreen b d = stateWith (b .«panel_len») (b .«store_len») (b .width) (b .height) (b .«frame_counter») (b .«next_handle») d (b .«stock_dirty») (b .count) (b .objects)
 
--- the record with d as the DC h, which stands at a spot
+-- the record with the DC h replaced by d; the spot says where the DC's record is
 abbrev pub withDc : GdiState → (h : ℕ) → Spot → Dc → GdiState
 withDc b h Screen d = withScreen b d
 withDc b h (Created i) d = withObjects b (b .«next_handle») (b .count) (set (b .objects) i (record { handle = h; object = DcOf d }))
 
--- a bitmap with its dirty mark
+-- a bitmap with its dirty mark set
 abbrev pub withHostDirty : Bitmap → Bitmap
 withHostDirty m = record { width = m .width; height = m .height; «host_dirty» = true }
 

@@ -34,7 +34,7 @@ pub const STOCK_SYSTEM_FONT: u32 = 0xDEAD_5710;
 
 pub const STOCK_DEFAULT_BITMAP: u32 = 0xDEAD_5720;
 
-// As many created objects a record can hold.
+// The most created objects a record can hold.
 pub const MAX_OBJECTS: usize = 256;
 
 // Whether a DC paints the panel or its selected bitmap.
@@ -91,15 +91,15 @@ pub enum GdiObject {
     Font(Font),
 }
 
-// A place of the table: an object under its handle.
+// A slot of the object table: an object and its handle.
 pub struct Slot {
     pub handle: u32,
     pub object: GdiObject,
 }
 
-// The device record as definitions have it; code has it as lent numbers (crate `numbers`). The lengths of the two lent memories,
-// the panel, the counters, the screen DC, the stock bitmap's dirty mark, and the created objects in order of creation: the first
-// count slots hold them.
+// The record of a device, as the definitions use it; the code works on it as flat numbers (crate `numbers`). It holds the lengths
+// of the two lent memories, the panel's sides, the counters, the screen DC, the stock bitmap's dirty mark, and the created objects
+// in order of creation, in the first `count` slots.
 pub struct GdiState {
     pub panel_len: usize,
     pub store_len: usize,
@@ -113,25 +113,25 @@ pub struct GdiState {
     pub objects: [Slot; 256],
 }
 
-// The slot of a created object.
+// The result of looking a created object up: its slot, or nothing.
 pub enum Found {
     At(usize),
     Nothing,
 }
 
-// Where a DC's record stands.
+// Where a DC's record is: in the record itself, or in a slot.
 pub enum Spot {
     Screen,
     Created(usize),
 }
 
-// A DC that was looked up.
+// The result of looking a DC up.
 pub enum DcFound {
     Is(Spot, Dc),
     Absent,
 }
 
-// What a handle names, as far as selection asks.
+// The kind of object that a handle names, with the colour that a selection copies.
 pub enum Kind {
     Bitmap,
     Brush(Colorref),
@@ -140,7 +140,7 @@ pub enum Kind {
     Other,
 }
 
-// Handles that no created object has, and that no deletion removes.
+// Whether a handle is a stock handle: no created object has it, and no deletion removes it.
 pub fn is_stock_handle(handle: u32) -> bool
     ensures { λ r. ⌜ r ≡ isStock handle ⌝ }
 {

@@ -1,4 +1,4 @@
--- Taint after one list and then another; and where nothing is tainted, no list of calls marks anything. Assumes nothing.
+-- The taint after two lists in turn; and where nothing is tainted, no list of calls taints anything. Assumes nothing.
 use mathlib.Core.Bool.{Bool, true, false, cond, _&&_}
 use mathlib.Core.List.{List, [], _∷_, _++_}
 use mathlib.Core.Path.{_≡_, refl, subst₂}
@@ -13,7 +13,7 @@ use Rattle.execution.specs.Execution.{Device, Invocation, planFor, answer, step
 use Rattle.execution.proofs.Steps.{step-kept}
 use Rattle.noninterference.specs.Claim.{taintAfter, taintOn}
 
--- one list after another
+-- two lists in turn taint what the joined list does
 pub taint-append : (cs ds : List Invocation) (s : Device) (m : Taint) → taintOn (cs ++ ds) s m ≡ taintOn ds (run cs s .1) (taintOn cs s m)
 unfolding run taintAfter
 taint-append [] ds s m = refl
@@ -30,7 +30,7 @@ none-taken : (m : Taint) → Untainted m → (o : Source) (x y : ℕ) → sample
 none-taken m f black x y z = z
 none-taken m f (sampled s fx fy) x y z = f s (fx x) (fy y) z
 
--- a mark that stays or goes
+-- a pixel that keeps its taint, or loses it
 unless : (t : Bool) {A B : Type 0} → (A → ⊥) → (B → ⊥) → cond t A B → ⊥
 unless true f g z = f z
 unless false f g z = g z

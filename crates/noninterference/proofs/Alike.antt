@@ -1,4 +1,4 @@
--- Every call keeps untainted pixels alike, by the shape of its plan. Assumes nothing.
+-- Every call keeps untainted pixels equal, by the shape of its plan. Assumes nothing.
 use mathlib.Core.List.{List, [], _∷_}
 use mathlib.Core.Path.{sym, subst}
 use Rattle.gdi.specs.declared.GdiState.{GdiState}
@@ -16,7 +16,7 @@ use Rattle.plan.proofs.Strokes.{dirtied-by-still}
 use Rattle.execution.proofs.Shape.{AllSourced, Shape, record-only, strokes, blanks, deletion}
 use Rattle.execution.proofs.Steady.{range-fits}
 
--- These paints, from the record b to the record b′, keep untainted pixels alike.
+-- These paints, with the record b before and b′ after, keep untainted pixels equal.
 pub record KeepsAlike (b : GdiState) (ps : List Paint) (b′ : GdiState) : Type 1 where
   pub alike : (m : Taint) (ms ns : Memories) → ReadyWith b ms → ReadyWith b ns → Alike b m ms ns → Alike b′ (tainted ps m) (after b ps ms) (after b ps ns)
 

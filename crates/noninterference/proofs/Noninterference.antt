@@ -26,7 +26,7 @@ use Rattle.noninterference.proofs.Alike.{shape-alike}
 abbrev AgreeAfter : Plan → Taint → GdiState → (ms ns : Memories) → Type 0
 AgreeAfter p m b ms ns = Agree (tainted (p .paint) m) (device (p .outcome .state) (after b (p .paint) ms)) (device (p .outcome .state) (after b (p .paint) ns))
 
--- a call on two devices of one record that agree: refused, looked at, and either
+-- a call on two devices of one record that agree: the device refuses every call; it is ready; either
 module _ (m : Taint) (b : GdiState) (ms ns : Memories) (a : Agree m (device b ms) (device b ns)) where
   refused-agree : Agree (tainted [] m) (device b (after b [] ms)) (device b (after b [] ns))
   unfolding after tainted

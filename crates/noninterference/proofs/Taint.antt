@@ -1,4 +1,4 @@
--- The marks after each call are those that document 01 names, and no others. Assumes nothing.
+-- The pixels tainted after each call are those that document 01 names, and no others. Assumes nothing.
 use mathlib.Core.Bool.{Bool, true, false, cond, _||_}
 use mathlib.Core.List.{List, []}
 use mathlib.Core.Logic.{_⊎_, inl, inr, Iff·rfl}
@@ -68,7 +68,7 @@ module _ (b : GdiState) (n k : ℕ) (us : List ℕ) (m : Taint) where
       by true f e = refl
       by false f e = absurd (eqb-false _ _ f e)
 
-  -- by the paints of the call's plan
+  -- the taint after the paints of the call's plan
   by-plan : (c : Call) {p : Plan} {s : SurfaceId} {r : (x y : ℕ) → Bool} {f : (x y : ℕ) → Type 0} → plan c us b n k ≡ p
       → Exactly m (tainted (p .paint) m) s r f → Exactly m (taintBy b n k us m c) s r f
   unfolding taintAfter
@@ -152,7 +152,7 @@ module _ (b : GdiState) (n k : ℕ) (us : List ℕ) (m : Taint) where
       is : resize b w h ≡ resized b w h
       is = shown ∙ by (ltb 4096 w || ltb 4096 h) (ltb (b .«panel_len») (size w h)) (ap numberOf (sym (accepted-plan (Resize w h) z ∙ shown)) ∙ z)
 
-  -- a new object, by the handle that is answered: a refusal answers none
+  -- a new object, named by the answered handle; a refusal answers none
   refused-no-handle : (i h : ℕ) {A : Type 0} → (i ≡ 0 → ⊥) → refused i ≡ answered h → A
   refused-no-handle i h ne e = absurd (ne (ap (λ (a : Parts). a .number) e))
 

@@ -12,8 +12,8 @@ use Rattle.paint.specs.Taint.{Taint, tainted}
 use Rattle.plan.specs.Calls.{plan}
 use Rattle.execution.specs.Execution.{Device, refusesAll, isPixel, Invocation, run}
 
--- Two devices agree but for tainted pixels: equal records, lent memories of equal lengths, and equal pixels except where
--- tainted.
+-- Two devices agree except at tainted pixels: their records are equal, their memories have equal lengths, and every pixel that is
+-- not tainted has the same colour on both.
 pub record Agree (m : Taint) (s t : Device) : Type 0 where
   pub states : s .state ≡ t .state
   pub panels : length (s .memories .panel) ≡ length (t .memories .panel)
@@ -21,19 +21,20 @@ pub record Agree (m : Taint) (s t : Device) : Type 0 where
   pub pixels : (u : SurfaceId) (x y : ℕ) → isPixel s u x y ≡ true → (m u x y → ⊥)
       → colourAt (s .memories) (whereIs (s .state) u) x y ≡ colourAt (t .memories) (whereIs (t .state) u) x y
 
--- the marks after a list of calls: from the calls, the record and the lengths, never from a pixel's colour
+-- the taint after a list of calls: it follows from the calls, the record and the lengths, never from a pixel's colour
 unfoldable pub taintAfter : List Invocation → GdiState → (panel-len store-len : ℕ) → Taint → Taint
 taintAfter [] b n k m = m
 taintAfter (c ∷ cs) b n k m =
     let p = plan (c .call) (c .units) b n k in
     taintAfter cs (p .outcome .state) n k (tainted (p .paint) m)
 
+-- the same, for a device
 abbrev pub taintOn : List Invocation → Device → Taint → Taint
 taintOn cs s m = taintAfter cs (s .state) (length (s .memories .panel)) (length (s .memories .store)) m
 
--- From any record and any memories: all answers are equal, and afterwards so are records, counters, dirty marks and every
--- pixel left untainted. A ready device is ready after every list of calls, so that the pixels do not go away. One that refuses every
--- call keeps its record and every byte.
+-- The claim, for every record and all memories. Two devices that agree except at tainted pixels give equal answers to every list of
+-- calls, and agree afterwards except at the pixels that are tainted then: records, counters and dirty marks are equal. A ready
+-- device stays ready, so that its pixels remain. A device that refuses every call keeps its record and every byte.
 pub record Noninterference : Type 1 where
   pub answers : (cs : List Invocation) (m : Taint) (s t : Device) → Agree m s t → run cs s .0 ≡ run cs t .0
   pub pixels : (cs : List Invocation) (m : Taint) (s t : Device) → Agree m s t → Agree (taintOn cs s m) (run cs s .1) (run cs t .1)

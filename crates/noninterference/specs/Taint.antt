@@ -1,5 +1,5 @@
--- The colour marks after a call, exactly: a field for each sentence of document 01's 'Marked pixels'. The claim alone would
--- also hold of marks that are too many.
+-- The taint after a call, exactly: a field for each sentence of document 01's 'Marked pixels'. The claim alone would also hold of
+-- too much taint.
 use mathlib.Core.Bool.{Bool, true, false, _||_}
 use mathlib.Core.List.{List, [], _∷_}
 use mathlib.Core.Logic.{_⊎_}
@@ -52,7 +52,7 @@ pub data Sets : Call → Type 0 where
 abbrev pub byDestination : Taint → (rop : ℕ) → SurfaceId → (x y : ℕ) → Type 0
 byDestination m rop s x y = (usesDst (tableOf rop) ≡ true) × m s x y
 
--- the code uses S and the source pixel taken for it, on q, was tainted before the call
+-- the code uses S and the pixel's source pixel, on q, was tainted before the call
 abbrev pub bySource : Taint → (rop : ℕ) → SurfaceId → Area → Point → (x y : ℕ) → Type 0
 bySource m rop q a p x y = (usesSrc (tableOf rop) ≡ true) × m q (columnFor a p x) (rowFor a p y)
 
@@ -62,13 +62,13 @@ module _ (b : GdiState) (panel-len store-len : ℕ) (units : List ℕ) where
   abbrev pub number : Call → ℕ
   number c = numberOf (plan c units b panel-len store-len)
 
-  -- the claim's marks after it; m is tainted before it
+  -- the taint after it, as in the claim; m is the taint before it
   abbrev pub taintBy : Taint → Call → Taint
   taintBy m c = taintAfter (record { call = c; units = units } ∷ []) b panel-len store-len m
 
-  -- For every call and every outcome, what is drawn, and which pixels are tainted afterwards.
+  -- For every call and every outcome: which pixels are drawn, and which are tainted afterwards.
   pub record ExactTaint (m : Taint) : Type 0 where
-    -- a fill without a code, outline, ink, panel fill and an effective resize untaint what they draw
+    -- pixels drawn without a code are not tainted afterwards: a fill, an outline, ink, a panel fill, an effective resize
     pub rectangle : (dc : ℕ) (a : Area) (s : SurfaceId) (i : Site) (d : Dc) → number (Rectangle dc a) ≡ 0 → targetOf b dc ≡ On s i d
         → Untaints m (taintBy m (Rectangle dc a)) s (λ x y. boxOf a x y || rimOf a x y)
     pub text : (dc : ℕ) (at : Point) (s : SurfaceId) (i : Site) (d : Dc) → number (Text dc at) ≡ 0 → targetOf b dc ≡ On s i d
@@ -78,7 +78,7 @@ module _ (b : GdiState) (panel-len store-len : ℕ) (units : List ℕ) where
     -- under a raster code a drawn pixel is tainted afterwards exactly if the code uses D and the pixel was tainted
     pub pattern-fill : (dc : ℕ) (a : Area) (rop : ℕ) (s : SurfaceId) (i : Site) (d : Dc) → number (PatternFill dc a rop) ≡ 0 → targetOf b dc ≡ On s i d
         → Exactly m (taintBy m (PatternFill dc a rop)) s (boxOf a) (byDestination m rop s)
-    -- or the call is a blit whose code uses S and the source pixel taken for it was tainted before the call
+    -- or the call is a blit whose code uses S and the pixel's source pixel was tainted before the call
     pub blit : (dc : ℕ) (a : Area) (src : ℕ) (p : Point) (rop : ℕ) (s q : SurfaceId) (i j : Site) (d e : Dc) → number (Blit dc a src p rop) ≡ 0
         → usesSrc (tableOf rop) ≡ true → targetOf b dc ≡ On s i d → targetOf b src ≡ On q j e
         → Exactly m (taintBy m (Blit dc a src p rop)) s (blitBox (whereIs b q) a p) (λ x y. byDestination m rop s x y ⊎ bySource m rop q a p x y)
@@ -86,16 +86,16 @@ module _ (b : GdiState) (panel-len store-len : ℕ) (units : List ℕ) where
     pub blit-ignoring : (dc : ℕ) (a : Area) (src : ℕ) (p : Point) (rop : ℕ) (s : SurfaceId) (i : Site) (d : Dc) → number (Blit dc a src p rop) ≡ 0
         → usesSrc (tableOf rop) ≡ false → targetOf b dc ≡ On s i d
         → Exactly m (taintBy m (Blit dc a src p rop)) s (boxOf a) (byDestination m rop s)
-    -- pixels not drawn and refused calls keep marks: a selection, a setting, a resize without effect and a deletion or removal of
-    -- a stock or absent handle draw no pixel
+    -- pixels not drawn keep their taint, and a refused call keeps all: a selection, a setting, a resize without effect, and a
+    -- deletion or removal of a stock or absent handle draw no pixel
     pub refused : (c : Call) → (number c ≡ 0 → ⊥) → Keeps m (taintBy m c)
     pub set : (c : Call) → Sets c → Keeps m (taintBy m c)
     pub not-resized : (w h : ℕ) → noEffect b w h ≡ true → Keeps m (taintBy m (Resize w h))
     pub not-deleted : (h : ℕ) → (isStock h ≡ true) ⊎ (findOf b h ≡ Nothing) → Keeps m (taintBy m (Delete h))
     pub not-removed : (h : ℕ) → (isStock h ≡ true) ⊎ (findOf b h ≡ Nothing) → Keeps m (taintBy m (Remove h))
-    -- a created bitmap's marks go when it is deleted or removed; field resize has those outside a resized panel
+    -- a bitmap that is deleted or removed has no taint; field `resize` says the same of pixels outside a resized panel
     pub deleted : (h i : ℕ) → number (Delete h) ≡ 0 → isStock h ≡ false → findOf b h ≡ At i → Untaints m (taintBy m (Delete h)) (Bitmap h) everywhere
     pub removed : (h i : ℕ) → number (Remove h) ≡ 0 → isStock h ≡ false → findOf b h ≡ At i → Untaints m (taintBy m (Remove h)) (Bitmap h) everywhere
-    -- a new bitmap has none
+    -- a new bitmap has no taint
     pub created : (c : Call) (h : ℕ) → Creates c → plan c units b panel-len store-len .outcome .answer ≡ answered h
         → Untaints m (taintBy m c) (Bitmap h) everywhere

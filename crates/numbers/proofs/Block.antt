@@ -1,4 +1,4 @@
--- Numbers that code a DC and a slot, and laws of blocks of numbers. Assumes nothing.
+-- Numbers that encode a DC or a slot, and laws of blocks of numbers. Assumes nothing.
 use mathlib.Core.Bool.{Bool, true, false}
 use mathlib.Core.List.{List, [], _∷_, _++_, append-nil}
 use mathlib.Core.Path.{_≡_, refl, _∙_, ap}
@@ -31,7 +31,7 @@ abbrev pub bitmapNumber : SelectedBitmap → ℕ
 bitmapNumber Unset = 0
 bitmapNumber (Chosen h) = h
 
--- Numbers that are a DC, a slot; and which one.
+-- The numbers encode this DC; this slot.
 pub record DcCoded (d : Dc) (l : List ℕ) : Type 0 where
   pub is-dc : isDc l ≡ true
   pub same : dcFields l ≡ d
@@ -45,13 +45,13 @@ pub no-kind : (kind : ℕ) (l : List ℕ) → (kind ≡ 0 → ⊥) → (kind ≡
 unfolding isObject
 no-kind kind l a b c d e = rw (ne-eqb kind 0 a, ne-eqb kind 1 b, ne-eqb kind 2 c, ne-eqb kind 3 d, ne-eqb kind 4 e)
 
--- as many numbers as there are, stored one after another
+-- all numbers of a block, written one after another
 pub all-stored : (l vs : List ℕ) → length l ≡ length vs → sets l 0 vs ≡ vs
 all-stored l vs h =
     let e : 0 + length vs ≡ length l = omega arith in
     sets-eq vs l 0 (omega arith) ∙ rw (e, drop-length l, append-nil vs)
 
--- a flag as a number is one, and comes back
+-- a flag is written as 0 or 1, and read back
 pub flag-back : (f : Bool) → flagOf (flagNumber f) ≡ f
 flag-back true = refl
 flag-back false = refl
@@ -71,7 +71,7 @@ pub dc-object : {d : Dc} {l : List ℕ} → DcCoded d l → ObjectCoded (DcOf d)
 unfolding objectOf isObject
 dc-object {d} h = record { is-object = h .is-dc; same = ap DcOf (h .same) }
 
--- a memory whose part was lent and came back, as the code has it
+-- a memory after a part of it was lent, as the code has it
 abbrev pub lentBack : List ℕ → (p n : ℕ) → List ℕ → List ℕ
 lentBack l p n b = take p l ++ (b ++ drop n (drop p l))
 

@@ -1,4 +1,4 @@
--- Numbers that change in one block only: what else the record is stays, and they are a record again if that block is one.
+-- Numbers that change in one block only: the rest of the record stays, and they encode a record again if that block is well formed.
 -- Assumes nothing.
 use mathlib.Core.Bool.{Bool, true, cond}
 use mathlib.Core.List.{List}
@@ -25,7 +25,7 @@ use Rattle.numbers.proofs.Seen.{part-at}
 use Rattle.numbers.proofs.Updates.{objects-seen}
 use Rattle.numbers.proofs.View.{table-same, table-set}
 
--- numbers that are a record are it
+-- numbers that encode a record are updated to it by doing nothing
 pub updated-same : {l : List ℕ} → isRecord l ≡ true → Updated l (view l) l
 updated-same r = record { is-record = r; same = refl; rest = refl }
 
@@ -37,7 +37,7 @@ pub record Kept (l : List ℕ) (p n : ℕ) (l′ : List ℕ) : Type 0 where
 pub kept-all : (l : List ℕ) (p n : ℕ) → Kept l p n l
 kept-all l p n = record { long = refl; same = λ k out. refl }
 
--- one number of the block stored
+-- one number of the block is written
 pub kept-set : {l m : List ℕ} {p n : ℕ} (k v : ℕ) → Kept l p n m → p ≤ k → k < p + n → Kept l p n (set m k v)
 kept-set {m = m} k v h a b =
     record {
@@ -45,7 +45,7 @@ kept-set {m = m} k v h a b =
       same = λ j out. getD-set-other m k j v 0 (λ e. out (omega arith) (omega arith)) ∙ h .same j out;
     }
 
--- a part of the block lent and come back
+-- a part of the block was lent
 pub kept-part : (l xs : List ℕ) (p n q k : ℕ) → length xs ≡ k → q + k ≤ length l → p ≤ q → q + k ≤ p + n → Kept l p n (withPart l q k xs)
 kept-part l xs p n q k len fits a b =
     record { long = length-with l xs q k len fits; same = λ j out. by j out (decLt j q) (decLt j (q + k)) }

@@ -1,4 +1,4 @@
--- What the test of a record's numbers tells. Assumes nothing.
+-- What follows from the test of a record's numbers. Assumes nothing.
 use mathlib.Core.Bool.{Bool, true, _&&_}
 use mathlib.Core.List.{List}
 use mathlib.Core.Path.{_≡_}

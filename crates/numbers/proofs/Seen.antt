@@ -1,4 +1,4 @@
--- What the numbers say of the record that they are: its size, and slot by slot the handle and the object. Assumes nothing.
+-- What is read from the numbers of a record: its size, and slot by slot the handle and the object. Assumes nothing.
 use mathlib.Core.Bool.{true}
 use mathlib.Core.List.{List}
 use mathlib.Core.Path.{_≡_, refl, sym, _∙_, ap, subst⁻¹}
@@ -80,7 +80,7 @@ module _ (l : List ℕ) where
   unfolding view
   screen-seen = refl
 
--- slot i of an object, of at most 256
+-- slot i holds an object; there are at most 256
 module _ (l : List ℕ) (few : at l countPlace ≤ 256) (i : ℕ) (lt : i < at l countPlace) where
   pub handle-read : handleAt (view l .objects) i ≡ at l (slotPlace i)
   handle-read = ap (λ s. s .handle) (slot-seen l i lt (omega arith)) ∙ part-at l (slotPlace i) slotSize handlePlace (omega arith) ∙ ap (at l) (omega arith)
@@ -91,7 +91,7 @@ module _ (l : List ℕ) (few : at l countPlace ≤ 256) (i : ℕ) (lt : i < at l
       ∙ ap (λ (k : ℕ). objectOf k (part (part l (slotPlace i) slotSize) objectPlace objectSize)) (part-at l (slotPlace i) slotSize kindPlace (omega arith))
       ∙ ap (objectOf (at l (slotPlace i + kindPlace))) (object-part l (slotPlace i))
 
--- numbers that are a record: as many as there have to be, with at most 256 objects
+-- numbers that encode a record: their count is right, with at most 256 objects
 module _ (l : List ℕ) (r : isRecord l ≡ true) where
   pub record-length : length l ≡ recordSize
   record-length = parts l r .long

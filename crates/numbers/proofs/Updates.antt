@@ -1,5 +1,5 @@
--- Numbers of which one part changed are the record, or the bitmap, with that part changed. The numbers in front of the screen DC
--- and those of a bitmap are gone through here and nowhere else. Assumes nothing.
+-- Numbers of which one part changed encode the record, or the bitmap, with that part changed. The numbers before the screen DC and
+-- those of a bitmap are listed one by one here and nowhere else. Assumes nothing.
 use mathlib.Core.Bool.{true}
 use mathlib.Core.List.{List}
 use mathlib.Core.Path.{_≡_, _∙_, ap}
@@ -17,7 +17,7 @@ use Rattle.numbers.specs.Block.{at, isFlag, dcFields, bitmapFields, obje
 use Rattle.numbers.specs.View.{slotTable, view}
 
 module _ (l l′ : List ℕ) where
-  -- the numbers in front of the screen DC are kept, except for two
+  -- the numbers before the screen DC are kept, except for two
   abbrev pub KeptBut : (a b : ℕ) → Type 0
   KeptBut a b = (k : ℕ) → k < headSize → (k ≡ a → ⊥) → (k ≡ b → ⊥) → at l′ k ≡ at l k
 

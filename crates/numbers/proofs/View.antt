@@ -1,4 +1,4 @@
--- Laws of the record that numbers are. Assumes nothing.
+-- Laws of the record that numbers encode. Assumes nothing.
 use mathlib.Core.Bool.{Bool, cond}
 use mathlib.Core.List.{List, [], _∷_}
 use mathlib.Core.Path.{_≡_, refl, sym, _∙_, ap}
@@ -17,7 +17,7 @@ use Rattle.numbers.specs.Layout.{slotSize, countPlace, slotPlace}
 use Rattle.numbers.specs.Block.{at, flagNumber, slotOf}
 use Rattle.numbers.specs.View.{tableFrom, slotIn, view}
 
--- the numbers in front of the screen DC, by the record
+-- the numbers before the screen DC, from the record
 abbrev pub deviceNumbers : GdiState → List ℕ
 deviceNumbers b =
     b .«panel_len» ∷ b .«store_len» ∷ b .width ∷ b .height ∷ b .«frame_counter» % 4294967296 ∷ b .«frame_counter» / 4294967296 ∷ b .«next_handle»
@@ -38,7 +38,7 @@ table-at f k (suc m) (suc i) d h = table-at f (suc k) m i d (omega arith) ∙ ap
 pub table-slot : (f : ℕ → Slot) (i : ℕ) → i < 256 → getD (tableFrom f 0 256) i noSlot ≡ f i
 table-slot f i h = table-at f 0 256 i noSlot h ∙ ap f (omega arith)
 
--- tables that agree but at i, where g has another slot
+-- tables that differ at i alone, where g has another slot
 pub table-set : (f g : ℕ → Slot) (i : ℕ) → i < 256 → ((j : ℕ) → j < 256 → (j ≡ i → ⊥) → f j ≡ g j) → set (tableFrom f 0 256) i (g i) ≡ tableFrom g 0 256
 table-set f g i h same =
     ext-getD noSlot (set (tableFrom f 0 256) i (g i)) (tableFrom g 0 256) (rw (length-set (tableFrom f 0 256) i (g i), length-table f 0 256, length-table g 0 256))

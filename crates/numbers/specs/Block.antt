@@ -37,7 +37,7 @@ flagNumber f = cond f 1 0
 abbrev pub surfaceOf : ℕ → DcSurface
 surfaceOf n = cond (flagOf n) Memory Screen
 
--- whether a bitmap is selected, and its handle, 0 if none is
+-- the selected bitmap, from the number that says whether there is one and the number that is its handle
 abbrev pub bitmapOf : (present h : ℕ) → SelectedBitmap
 bitmapOf present h = cond (flagOf present) (Chosen h) Unset
 
@@ -59,16 +59,16 @@ dcFields l =
       «bk_transparent» = flagOf (at l bkTransparentIn);
     }
 
--- its flags are flags, and an absent bitmap has handle 0
+-- whether numbers are a DC: flags are 0 or 1, and an absent bitmap has handle 0
 unfoldable pub isDc : List ℕ → Bool
 isDc l = isFlag (at l surfaceIn) && (isFlag (at l bkTransparentIn) && (flagOf (at l presentIn) || (eqb (at l presentIn) 0 && eqb (at l bitmapIn) 0)))
 
--- a bitmap's record
+-- the numbers of a bitmap
 abbrev pub bitmapFields : List ℕ → BitmapRecord
 bitmapFields l = record { width = at l bitmapWidthIn; height = at l bitmapHeightIn; «host_dirty» = flagOf (at l bitmapDirtyIn) }
 
--- An object is its kind's number and as many numbers as a DC has. Kinds are 0 DC, 1 bitmap, 2 brush, 3 pen, 4 font. A bitmap is
--- width, height and dirty; a brush is colour; a pen colour and width; a font height in two's complement.
+-- An object is the number of its kind and as many numbers as a DC has. Kinds are 0 DC, 1 bitmap, 2 brush, 3 pen, 4 font. A bitmap
+-- has width, height and dirty mark; a brush its colour; a pen colour and width; a font its height in two's complement.
 unfoldable pub objectOf : (kind : ℕ) → List ℕ → GdiObject
 objectOf kind l =
     cond (eqb kind 0) (DcOf (dcFields l)) (
@@ -81,7 +81,7 @@ objectOf kind l =
 abbrev pub zerosFrom : List ℕ → ℕ → Bool
 zerosFrom l k = allBelow (objectSize - k) (λ j. eqb (at l (k + j)) 0)
 
--- a known kind, its flags are flags, and the numbers past its fields are 0
+-- whether numbers are an object: the kind is known, flags are 0 or 1, and the numbers past its fields are 0
 unfoldable pub isObject : (kind : ℕ) → List ℕ → Bool
 isObject kind l =
     cond (eqb kind 0) (isDc l) (
@@ -90,14 +90,14 @@ isObject kind l =
     cond (eqb kind 3) (zerosFrom l penSize) (
     eqb kind 4 && zerosFrom l fontSize))))
 
--- The numbers of a slot: handle, kind, and the object's.
+-- The numbers of a slot: handle, kind, and those of the object.
 abbrev pub slotOf : List ℕ → Slot
 slotOf l = record { handle = at l handlePlace; object = objectOf (at l kindPlace) (part l objectPlace objectSize) }
 
 abbrev pub isSlot : List ℕ → Bool
 isSlot l = isObject (at l kindPlace) (part l objectPlace objectSize)
 
--- Numbers that are an object of the kind, and which one.
+-- The numbers encode the object o, which is of this kind.
 pub record ObjectCoded (o : GdiObject) (kind : ℕ) (l : List ℕ) : Type 0 where
   pub is-object : isObject kind l ≡ true
   pub same : objectOf kind l ≡ o

@@ -1,7 +1,7 @@
--- The layout of a record's numbers: how many each part has, and where it stands. The constants in src/ are these.
+-- The layout of a record's numbers: how many numbers each part has, and where it begins. The constants in src/ are the same.
 use Prim.Native.Nat.{ℕ, _+_, _*_}
 
--- how many numbers a DC has; an object has as many as the largest, a DC
+-- how many numbers a DC has; every object has as many as the largest kind, the DC
 abbrev pub dcSize : ℕ
 dcSize = 12
 
@@ -21,7 +21,7 @@ objectPlace = 2
 abbrev pub slotSize : ℕ
 slotSize = objectPlace + objectSize
 
--- how many numbers a record has in front of its screen DC; 256 slots stand behind it
+-- how many numbers a record has before its screen DC; the 256 slots follow the DC
 abbrev pub headSize : ℕ
 headSize = 9
 
@@ -63,7 +63,7 @@ screenPlace = headSize
 abbrev pub slotsPlace : ℕ
 slotsPlace = screenPlace + dcSize
 
--- slot i; past the last object, where the numbers in use end
+-- where slot i begins; at i = count, where the numbers in use end
 abbrev pub slotPlace : ℕ → ℕ
 slotPlace i = slotsPlace + slotSize * i
 
@@ -124,7 +124,7 @@ penWidthIn = 1
 abbrev pub fontHeightIn : ℕ
 fontHeightIn = 0
 
--- the numbers of the other kinds; those behind them, up to an object's size, are 0
+-- how many numbers the other kinds have; the rest, up to an object's size, are 0
 abbrev pub bitmapSize : ℕ
 bitmapSize = 3
 

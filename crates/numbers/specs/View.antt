@@ -1,4 +1,4 @@
--- Which device record flat numbers are. How many there are, and where each stands, is in Layout.antt.
+-- The record that flat numbers encode. Layout.antt says how many there are, and where each part begins.
 use mathlib.Core.Bool.{Bool, true, cond, _&&_}
 use mathlib.Core.List.{List, [], _∷_}
 use mathlib.Core.Path.{_≡_}
@@ -13,19 +13,19 @@ use Rattle.gdi.specs.Record.{vacantSlot}
 use Rattle.numbers.specs.Layout.{dcSize, slotSize, recordSize, panelLenPlace, storeLenPlace, widthPlace, heightPlace, framesLowPlace, framesHighPlace, nextHandlePlace, stockDirtyPlace, countPlace, screenPlace, slotPlace}
 use Rattle.numbers.specs.Block.{at, flagOf, isFlag, dcFields, isDc, slotOf, isSlot}
 
--- f k, f (k + 1), .. : m slots
+-- the m slots f k, f (k + 1), ..
 unfoldable pub tableFrom : (ℕ → Slot) → (k m : ℕ) → List Slot
 tableFrom f k zero = []
 tableFrom f k (suc m) = f k ∷ tableFrom f (suc k) m
 
--- slot i, of which the first n hold objects; the others are vacant, whatever their numbers are
+-- slot i of a record with n objects: the first n slots hold them, the others are vacant, whatever their numbers are
 abbrev pub slotIn : List ℕ → (n i : ℕ) → Slot
 slotIn l n i = cond (ltb i n) (slotOf (part l (slotPlace i) slotSize)) vacantSlot
 
 abbrev pub slotTable : List ℕ → (n : ℕ) → List Slot
 slotTable l n = tableFrom (slotIn l n) 0 256
 
--- The record that the numbers are: panel memory length, store length, panel width and height, the frame counter's low and high
+-- The record that the numbers encode: panel memory length, store length, panel width and height, the frame counter's low and high
 -- half, next handle, the stock bitmap's dirty mark, count; the screen DC; the slots.
 unfoldable pub view : List ℕ → GdiState
 view l =
@@ -42,8 +42,8 @@ view l =
       objects = slotTable l (at l countPlace);
     }
 
--- Numbers are a record if they are as many as there have to be, the stock bitmap's mark is a flag, at most 256 objects are
--- counted, and the screen DC and each object is one.
+-- Whether numbers encode a record: their count is right, the stock bitmap's dirty mark is 0 or 1, there are at most 256 objects,
+-- and the screen DC and every object are well formed.
 unfoldable pub isRecord : List ℕ → Bool
 isRecord l =
     eqb (length l) recordSize
@@ -52,7 +52,7 @@ isRecord l =
     && (isDc (part l screenPlace dcSize)
     && allBelow (at l countPlace) (λ i. isSlot (part l (slotPlace i) slotSize)))))
 
--- The numbers l became the record b: they are a record again, that record, and those past its last object are kept.
+-- The numbers l were updated to the record b: the numbers l′ encode b, and those past its last object are as they were.
 pub record Updated (l : List ℕ) (b : GdiState) (l′ : List ℕ) : Type 0 where
   pub is-record : isRecord l′ ≡ true
   pub same : view l′ ≡ b

@@ -1,5 +1,4 @@
-// A device record as flat numbers of 32 bits, which a host keeps and lends: the DCs, objects and slots that its blocks of numbers
-// are.
+// The record of a device as flat numbers of 32 bits, which a host keeps and lends; reading DCs, objects and slots from them.
 ghost use mathlib.Core.Path.{_≡_};
 ghost use Prim.Native.Nat.{_≤_};
 ghost use lib.ListN.{length};
@@ -17,7 +16,7 @@ use gdi::Pen;
 use gdi::SelectedBitmap;
 use gdi::Slot;
 
-// The layout (specs/Layout.antt). How many numbers a DC, an object, a slot and a record have.
+// The layout, as in specs/Layout.antt: how many numbers a DC, an object, a slot and a record have.
 pub const DC: usize = 12;
 
 pub const OBJECT_SIZE: usize = DC;
@@ -165,7 +164,7 @@ pub fn dc_of(numbers: &[u32]) -> Dc
     }
 }
 
-// The object of this kind.
+// Reads an object of this kind.
 pub fn object_of(kind: u32, numbers: &[u32]) -> GdiObject
     requires { ⌜ objectSize ≤ length (now numbers) ⌝ }
     ensures { λ r. ⌜ r ≡ objectOf kind (now (numbers .entry)) ⌝ }

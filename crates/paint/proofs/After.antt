@@ -1,4 +1,4 @@
--- The marks after each kind of paint, exactly. Assumes nothing.
+-- The taint after each kind of paint, exactly. Assumes nothing.
 use mathlib.Core.Bool.{Bool, true, false, cond, _&&_, _||_}
 use mathlib.Core.Logic.{_↔_, _⊎_, inl, inr, Iff·rfl, Iff·trans}
 use mathlib.Core.Path.{_≡_, refl, sym, _∙_}
@@ -18,16 +18,16 @@ same-self : (s : SurfaceId) → same s s ≡ true
 same-self Panel = refl
 same-self (Bitmap h) = eq-eqb h h refl
 
--- by another rule that holds of the same pixels
+-- the same by another rule that holds of the same pixels
 pub ruled : {m n : Taint} {s : SurfaceId} {r : (x y : ℕ) → Bool} {f g : (x y : ℕ) → Type 0} → Exactly m n s r f → ((x y : ℕ) → f x y ↔ g x y) → Exactly m n s r g
 ruled e i = record { drawn = λ x y t. Iff·trans (e .drawn x y t) (i x y); others = e .others }
 
--- a drawing marks what it reads tainted
+-- a drawing taints the pixels that read a tainted one
 one : (m : Taint) (d : Draw) → Exactly m (taintedBy (draw d) m) (d .target) (d .region) (Reads m d (d .target))
 unfolding taintedBy
 one m d = record { drawn = λ x y t. rw (same-self (d .target), t) Iff·rfl; others = λ u x y f. rw f Iff·rfl }
 
--- it reads the destination, and the source pixel that is taken
+-- a drawing reads the destination and the source pixel
 reads : (m : Taint) (d : Draw) (s : SurfaceId) (x y : ℕ)
     → Reads m d s x y ↔ (((usesDst (d .table) ≡ true) × m s x y) ⊎ ((usesSrc (d .table) ≡ true) × sampleTainted m (d .source) x y))
 reads m d s x y = (by, back)
@@ -60,7 +60,7 @@ module _ {m n o : Taint} {s : SurfaceId} {f g : (x y : ℕ) → Bool} (e : Untai
   pub two-exact : Untaints m o s (λ x y. f x y || g x y)
   two-exact = record { drawn = λ x y z. either-drawn x y (f x y) (g x y) refl refl z; others = λ u x y z. neither-drawn u x y (same u s) refl z }
 
--- one surface loses its marks: the one that blanked bytes clear, or a deleted bitmap
+-- one surface loses its taint: the one that is blanked, or a deleted bitmap
 cleared : (m : Taint) (s : SurfaceId) → Untaints m (λ u x y. cond (same u s) ⊥ (m u x y)) s everywhere
 cleared m s =
     record {

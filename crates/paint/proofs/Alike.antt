@@ -1,4 +1,4 @@
--- Memories that are alike but for tainted pixels, and memories lent with a record that looks at calls. Assumes nothing.
+-- Memories that are equal except at tainted pixels, and memories lent with a ready record. Assumes nothing.
 use mathlib.Core.Bool.{true}
 use mathlib.Core.Path.{_≡_, sym, subst}
 use Prim.Native.Nat.{ℕ}
@@ -14,11 +14,11 @@ use Rattle.paint.specs.Memories.{Memories, colourAt}
 use Rattle.paint.specs.Taint.{Taint}
 use Rattle.paint.specs.Memories.{hasPixel}
 
--- every untainted pixel of the record has one colour in both
+-- every untainted pixel of the record has the same colour in both
 abbrev pub Alike : GdiState → Taint → (ms ns : Memories) → Type 0
 Alike b m ms ns = (u : SurfaceId) (x y : ℕ) → hasPixel (whereIs b u) x y ≡ true → (m u x y → ⊥) → colourAt ms (whereIs b u) x y ≡ colourAt ns (whereIs b u) x y
 
--- calls with these memories are looked at
+-- the record is ready, lent with these memories
 abbrev pub ReadyWith : GdiState → Memories → Type 0
 ReadyWith b ms = Ready b (length (ms .panel)) (length (ms .store))
 

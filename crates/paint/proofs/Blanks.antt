@@ -1,5 +1,5 @@
--- Blanked bytes: cleared surfaces are black, and every other pixel keeps its colour. New objects and the resized panel are
--- cases of it. Assumes nothing.
+-- Blanked bytes: cleared surfaces are black, and every other pixel keeps its colour; with new objects and the resized panel as its
+-- two cases. Assumes nothing.
 use mathlib.Core.Bool.{Bool, true, false, cond, not}
 use mathlib.Core.List.{List, [], _∷_, _++_}
 use mathlib.Core.Path.{_≡_, refl, sym, _∙_, ap, subst}
@@ -52,8 +52,8 @@ pub data Off (p n : ℕ) : Memory → Place → Type 0 where
   in-store : {q w h : ℕ} → Off p n PanelMemory (At Store q w h)
   apart : {k : Memory} {q w h : ℕ} → ((j : ℕ) → q ≤ j → j < q + size w h → p ≤ j → j < p + n → ⊥) → Off p n k (At k q w h)
 
--- what is asked of each surface: it is cleared and lies among the blanked bytes now; or it is not, and lies off them where it
--- lay before
+-- the condition on each surface: it is cleared and lies among the blanked bytes afterwards, or it is not cleared and stays in its
+-- place apart from them
 pub data Blanked (k : Memory) (p n : ℕ) : (cleared : Bool) → (then now : Place) → Type 0 where
   new : {then now : Place} → Among p n k now → Blanked k p n true then now
   old : {then now : Place} → now ≡ then → Off p n k then → Blanked k p n false then now
@@ -120,7 +120,7 @@ module _ (a : GdiState) (p n : ℕ) (clears : SurfaceId → Bool) (ms : Memories
   blank-store PanelMemory fits = refl
   blank-store Store fits = length-with (ms .store) (replicate n 0) p n (length-replicate n 0) fits
 
--- with a slot behind the others: where these lie, and where its object does
+-- with one more slot at the end: where the other objects lie, and where the new one does
 locate-old : (s : Slot) (l : List Slot) (p k : ℕ) → eqb (s .handle) k ≡ false → locate (l ++ (s ∷ [])) p k ≡ locate l p k
 unfolding locate
 locate-old s [] p k e = rw e
@@ -134,7 +134,7 @@ module _ (b : GdiState) (s : Slot) (h : ℕ) (is : eqb (s .handle) h ≡ true) (
       rw (none i (omega arith)) (locate-new (suc i) m (p + bytesOf (objectAt b i)) (omega arith) (omega (arith, sum-suc i (λ k. bytesOf (objectAt b k)))))
 
 module _ (b : GdiState) (o : GdiObject) (sound : isSound b ≡ true) (h : ℕ) where
-  -- the new object lies where the others end, and these where they lay
+  -- the new object lies where the others end; the others stay in their places
   where-new : whereIs (added b o) (Bitmap h) ≡ cond (eqb h (newHandle b)) (placeFrom o (used b)) (whereIs b (Bitmap h))
   where-new = by (eqb h stockBitmap) refl (eqb h (newHandle b)) refl
     where
@@ -158,7 +158,7 @@ module _ (b : GdiState) (o : GdiObject) (sound : isSound b ≡ true) (h : ℕ) w
 abbrev withStoreLen : GdiState → ℕ → GdiState
 withStoreLen b n = stateWith (b .«panel_len») n (b .width) (b .height) (b .«frame_counter») (b .«next_handle») (b .screen) (b .«stock_dirty») (b .count) (b .objects)
 
--- every surface ends where the free part of the store begins: it lies in the store cut there
+-- every surface ends before the free part of the store, so it lies in the store without that part
 abbrev cut : GdiState → GdiState
 cut b = withStoreLen b (used b)
 
@@ -195,7 +195,7 @@ frame-among (Brush x) p = no-place
 frame-among (Pen x) p = no-place
 frame-among (Font x) p = no-place
 
--- a new object behind the others
+-- a new object after the others
 pub new-blanked : (b : GdiState) (o : GdiObject) → isSound b ≡ true → (u : SurfaceId) → Blanked Store (used b) (bytesOf o) (only (Bitmap (newHandle b)) u) (whereIs b u) (whereIs (added b o) u)
 new-blanked b o sound Panel = unfold added in old refl on-panel
 new-blanked b o sound (Bitmap h) =

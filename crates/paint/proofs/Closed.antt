@@ -1,4 +1,4 @@
--- An object that goes: every other pixel is as it was, wherever it lies now. Assumes nothing.
+-- The removal of an object: every other pixel keeps its colour, wherever it lies afterwards. Assumes nothing.
 use mathlib.Core.Bool.{Bool, true, false, cond}
 use mathlib.Core.Path.{_≡_, refl, sym, _∙_, ap, subst}
 use Prim.Native.Nat.{ℕ, _+_, _≤_}
@@ -30,11 +30,11 @@ use Rattle.paint.specs.Taint.{Taint, taintedBy, tainted}
 use Rattle.paint.specs.Memories.{hasPixel}
 use Rattle.paint.proofs.Alike.{Alike, ReadyWith}
 
--- the memories with the n bytes from a on, of those up to e, gone from the store
+-- the memories with the n bytes from a on removed from the store, of which the first e are in use
 abbrev closed : Memories → (a n e : ℕ) → Memories
 closed ms a n e = memories (ms .panel) (closedUp 0 (ms .store) a n e)
 
--- a bitmap that stays: its sides, and its bytes where it lies now, are those that it had where it lay
+-- a bitmap that stays: its sides and its bytes at its new place are those that it had at its old place
 module _ {a n e : ℕ} where
   shift-inside : {now then : Place} → Shift a n e now then → (x y : ℕ) → hasPixel now x y ≡ true → hasPixel then x y ≡ true
   shift-inside gone x y i = i
@@ -57,7 +57,7 @@ module _ {a n e : ℕ} where
   shift-colour s ms u v x y = rw (shift-pixels s ms u v, shift-width s)
 
 module _ (b : GdiState) (h i : ℕ) (found : findOf b h ≡ FoundAt i) where
-  -- its bytes are among those that hold pixels, and these in the store
+  -- its bytes are among those in use, and these lie in the store
   gap : Sound b → startOf b i + bytesOf (objectAt b i) ≤ used b
   gap s = room s i (found-count b h found)
 
@@ -71,14 +71,14 @@ module _ (b : GdiState) (h i : ℕ) (found : findOf b h ≡ FoundAt i) where
         is : isStock stockBitmap ≡ true
         is = unfold isStock in refl
 
-    -- it is nowhere, and every other bitmap has shifted
+    -- the removed bitmap has no place, and every other bitmap is shifted
     itself : Sound b → whereIs (withoutAt b i) (Bitmap h) ≡ Nowhere
     itself s = rw not-stock (subst (λ (k : ℕ). locate (live (withoutAt b i)) 2 k ≡ Nowhere) (scan-handle (b .objects) h 0 (b .count) found) (nowhere-after b s i (found-count b h found) 2))
 
     others : Sound b → (k : ℕ) → eqb k h ≡ false → Shift (startOf b i) (bytesOf (objectAt b i)) (used b) (whereIs (withoutAt b i) (Bitmap k)) (whereIs b (Bitmap k))
     others s k f = moved b s i (found-count b h found) k (ne-eqb _ _ (λ q. eqb-false k h f (sym q ∙ scan-handle (b .objects) h 0 (b .count) found)))
 
-    -- the law: untainted pixels of the other surfaces stay alike
+    -- the law: untainted pixels of the other surfaces stay equal
     pub close-alike : (m : Taint) (ms ns : Memories) → ReadyWith b ms → ReadyWith b ns → Alike b m ms ns
         → Alike (withoutAt b i) (tainted (closing b h i) m) (after b (closing b h i) ms) (after b (closing b h i) ns)
     unfolding after paintedBy tainted taintedBy

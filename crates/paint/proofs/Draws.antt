@@ -1,4 +1,4 @@
--- One law for every drawing, whatever it draws where and from what. Assumes nothing.
+-- One law for every drawing, whatever its target, region, table and source. Assumes nothing.
 use mathlib.Core.Bool.{Bool, true, false, cond, _&&_}
 use mathlib.Core.List.{List}
 use mathlib.Core.Path.{_≡_, refl, sym, _∙_, ap, subst}
@@ -32,7 +32,7 @@ use Rattle.paint.specs.Taint.{Taint, sampleTainted, Reads, byD, byS, tai
 use Rattle.paint.specs.Memories.{hasPixel}
 use Rattle.paint.proofs.Alike.{Alike, ReadyWith, Fits, surface-fits}
 
--- one result, if each operand that the code uses is the same
+-- the results are equal if each operand that the code uses is
 same-result : (t c : ℕ) {s s′ d d′ : ℕ} → (usesSrc t ≡ true → s ≡ s′) → (usesDst t ≡ true → d ≡ d′) → applied t c s d ≡ applied t c s′ d′
 same-result t c {s} {s′} {d} {d′} src dst = by-src (usesSrc t) refl ∙ by-dst (usesDst t) refl
   where
@@ -58,7 +58,7 @@ row x y w lt =
 word-fits : (m : List ℕ) (p w h x y : ℕ) → p + size w h ≤ length m → x < w → y < h → 2 * (x + y * w) + 1 < length (part m p (size w h))
 word-fits m p w h x y f a b = omega (arith, length-part m p (size w h) f, mul-le-mul-right w b, mul-comm w h)
 
--- f of a surface's bytes, as many as they were, in their place
+-- a surface's bytes replaced by f of them, where f keeps their number
 module _ (f : List ℕ → List ℕ) (keeps : (bytes : List ℕ) → length (f bytes) ≡ length bytes) where
   module _ (l : List ℕ) (p n : ℕ) (fits : p + n ≤ length l) where
     as-many : length (f (part l p n)) ≡ n
@@ -84,12 +84,12 @@ module _ (f : List ℕ → List ℕ) (keeps : (bytes : List ℕ) → length (f b
     over-store (At PanelMemory p w h) i = refl
     over-store (At Store p w h) i = put-length (ms .store) p (size w h) (i .fits)
 
-    -- what is drawn is there
+    -- the surface has the new bytes
     pixels-same : (m : Memory) (p w h : ℕ) → Fits ms (At m p w h) → pixelsAt (over (At m p w h) f ms) (At m p w h) ≡ f (pixelsAt ms (At m p w h))
     pixels-same PanelMemory p w h i = put-same (ms .panel) p (size w h) (i .fits)
     pixels-same Store p w h i = put-same (ms .store) p (size w h) (i .fits)
 
-    -- and nowhere else
+    -- all other bytes are kept
     pixels-other : {at on : Place} → Apart at on → Fits ms at → pixelsAt (over at f ms) on ≡ pixelsAt ms on
     pixels-other no-first i = refl
     pixels-other no-second i = refl
@@ -101,7 +101,7 @@ module _ (f : List ℕ → List ℕ) (keeps : (bytes : List ℕ) → length (f b
 drawn-length : (d : Draw) (s : ℕ → ℕ → ℕ) (w : ℕ) (l : List ℕ) → length (drawnBytes d s w l) ≡ length l
 drawn-length d s w l = length-painted _ _ l
 
--- a pixel of the target: alike if the results are where it is drawn, and the old colours where it is not
+-- a pixel of the target: equal on both if the results are equal where it is drawn, and the old colours where it is not
 on-target : (d : Draw) (s t : ℕ → ℕ → ℕ) (ms ns : Memories) (at : Place) (x y : ℕ) → Fits ms at → Fits ns at → hasPixel at x y ≡ true
     → (d .region x y ≡ true → applied (d .table) (d .pattern) (s x y) (colourAt ms at x y) ≡ applied (d .table) (d .pattern) (t x y) (colourAt ns at x y))
     → (d .region x y ≡ false → colourAt ms at x y ≡ colourAt ns at x y)
@@ -123,12 +123,12 @@ on-target d s t ms ns (At m p w h) x y i j e new old =
     fit PanelMemory ms i = word-fits (ms .panel) p w h x y (i .fits) a b
     fit Store ms i = word-fits (ms .store) p w h x y (i .fits) a b
 
--- what is taken for x, y is a pixel
+-- the source pixel of x, y is a pixel of the source surface
 abbrev pub takenInside : GdiState → Source → (x y : ℕ) → Bool
 takenInside b black x y = true
 takenInside b (sampled s fx fy) x y = hasPixel (whereIs b s) (fx x) (fy y)
 
--- what is taken for any drawn pixel is a pixel: asked of a drawing
+-- the same for every drawn pixel: a condition on the drawing
 abbrev pub Sourced : GdiState → Draw → Type 0
 Sourced b d = (x y : ℕ) → d .region x y ≡ true → takenInside b (d .source) x y ≡ true
 
@@ -144,7 +144,7 @@ same-surface (Bitmap h) Panel e = clash e
 same-surface (Bitmap h) (Bitmap k) e = ap Bitmap (eqb-true h k e)
 
 module _ (b : GdiState) (d : Draw) (ms : Memories) (l : ReadyWith b ms) where
-  -- what it makes of the target's bytes
+  -- the target's bytes after it
   abbrev drawing : List ℕ → List ℕ
   drawing = drawnBytes d (operand b ms (d .source)) (widthOf (whereIs b (d .target)))
 
@@ -169,7 +169,7 @@ module _ (b : GdiState) (d : Draw) (ms : Memories) (l : ReadyWith b ms) where
       ap (λ (bytes : List ℕ). word bytes (x + y * widthOf (whereIs b u)))
       (pixels-other drawing keeps ms (turn (apart b u (d .target) e)) (surface-fits b ms l (d .target)))
 
--- the law: a drawing keeps untainted pixels alike
+-- the law: a drawing keeps untainted pixels equal
 pub draw-alike : (b : GdiState) (d : Draw) → Sourced b d → (m : Taint) (ms ns : Memories) → ReadyWith b ms → ReadyWith b ns → Alike b m ms ns
     → Alike b (taintedBy (draw d) m) (paintedBy b (draw d) ms) (paintedBy b (draw d) ns)
 unfolding taintedBy

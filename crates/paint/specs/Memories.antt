@@ -36,7 +36,7 @@ abbrev pub heightOf : Place → ℕ
 heightOf Nowhere = 0
 heightOf (At m p w h) = h
 
--- x, y within a surface's sides
+-- whether the surface at this place has a pixel at x, y
 abbrev pub hasPixel : Place → (x y : ℕ) → Bool
 hasPixel Nowhere x y = false
 hasPixel (At m p w h) x y = ltb x w && ltb y h
@@ -46,7 +46,7 @@ abbrev pub pixelsAt : Memories → Place → List ℕ
 pixelsAt ms Nowhere = []
 pixelsAt ms (At m p w h) = part (memoryOf ms m) p (size w h)
 
--- the memories with f of a surface's bytes in their place
+-- the memories with a surface's bytes replaced by f of them
 abbrev pub over : Place → (List ℕ → List ℕ) → Memories → Memories
 over Nowhere f ms = ms
 over (At m p w h) f ms = withMemory ms m (withPart (memoryOf ms m) p (size w h) (f (part (memoryOf ms m) p (size w h))))

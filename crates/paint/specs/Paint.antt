@@ -1,4 +1,5 @@
--- What a call does to the memories. A paint says which pixels get which colour, or which bytes go; it holds no byte.
+-- What a call does to the memories: a list of paints. A paint says which pixels are drawn and how, or which bytes are blanked or
+-- removed; it holds no pixel's colour.
 use mathlib.Core.Bool.{Bool}
 use mathlib.Core.List.{List, [], _∷_}
 use Prim.Native.Nat.{ℕ, _/_, _%_}
@@ -15,13 +16,13 @@ use Rattle.place.specs.declared.SurfaceId.{SurfaceId}
 use Rattle.place.specs.Place.{same, whereIs}
 use Rattle.paint.specs.Memories.{Memories, memories, memoryOf, withMemory, widthOf, over, colourAt}
 
--- the source operand of a drawing: 0, or for the pixel at x, y the pixel of a surface at fx x, fy y
+-- the source operand of a drawing: 0, or for the pixel at x, y the pixel at fx x, fy y of a surface
 pub data Source : Type 0 where
   black : Source
   sampled : SurfaceId → (fx fy : ℕ → ℕ) → Source
 
--- A drawing: each pixel of `target` in `region` gets what the code's table gives of the pattern, the source operand and
--- itself. A drawing without a code has the table of PATCOPY, 0xF0.
+-- A drawing: each pixel of `target` in `region` gets the table's result for the pattern, the source operand and itself. A drawing
+-- without a raster code has the table of PATCOPY, 0xF0.
 pub record Draw : Type 0 where
   pub target : SurfaceId
   pub region : (x y : ℕ) → Bool
@@ -31,10 +32,10 @@ pub record Draw : Type 0 where
 
 pub data Paint : Type 0 where
   draw : Draw → Paint
-  -- the n bytes of the memory from p on become 0; the surfaces that clears holds of lie there from now on, black: a new bitmap,
-  -- the panel at its new size
+  -- the n bytes of the memory from p on become 0; the surfaces of which `clears` holds lie there afterwards: a new bitmap, or the
+  -- panel at its new size
   blank : Memory → (p n : ℕ) → (clears : SurfaceId → Bool) → Paint
-  -- the bitmap h goes: the n bytes of the store from p on; those behind them, up to used, move down, and the freed tail
+  -- the bitmap h is removed: the n bytes of the store from p on. The bytes after them, up to used, move down, and the freed end
   -- becomes 0
   close : (h p n used : ℕ) → Paint
 
@@ -46,7 +47,7 @@ abbrev pub operand : GdiState → Memories → Source → (x y : ℕ) → ℕ
 operand b ms black x y = 0
 operand b ms (sampled s fx fy) x y = colourAt ms (whereIs b s) (fx x) (fy y)
 
--- a drawing on the bytes of a surface that is w wide, s being the source operand
+-- the bytes of a surface, w wide, after a drawing; s is the source operand
 abbrev pub drawnBytes : Draw → (s : ℕ → ℕ → ℕ) → (w : ℕ) → List ℕ → List ℕ
 drawnBytes d s w m = painted (wordsOf w (d .region)) (λ i. applied (d .table) (d .pattern) (s (i % w) (i / w)) (word m i)) m
 
@@ -56,11 +57,11 @@ paintedBy b (draw d) ms = over (whereIs b (d .target)) (drawnBytes d (operand b 
 paintedBy b (blank m p n clears) ms = withMemory ms m (blanked (memoryOf ms m) p n)
 paintedBy b (close h p n used) ms = memories (ms .panel) (closedUp 0 (ms .store) p n used)
 
--- after several, one after the other
+-- the memories after several paints, in their order
 unfoldable pub after : GdiState → List Paint → Memories → Memories
 after b [] ms = ms
 after b (p ∷ ps) ms = after b ps (paintedBy b p ms)
 
--- object i, of the handle h, goes: its pixels out of the store
+-- the paint that removes the pixels of object i, whose handle is h
 abbrev pub closing : GdiState → (h i : ℕ) → List Paint
 closing b h i = close h (startOf b i) (bytesOf (objectAt b i)) (used b) ∷ []

@@ -1,4 +1,4 @@
--- What holds of each refusal and of each accepted drawing holds of a drawing call. Assumes nothing.
+-- A property of every refusal and of every accepted drawing is one of every drawing call. Assumes nothing.
 use mathlib.Core.Bool.{Bool, true, false, cond, _&&_, _||_}
 use mathlib.Core.List.{List}
 use mathlib.Core.Path.{_≡_, refl}

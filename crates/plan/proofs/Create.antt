@@ -14,7 +14,7 @@ use Rattle.sound.specs.Sound.{objectFits, used}
 use Rattle.plan.specs.Plan.{refuse}
 use Rattle.plan.specs.Create.{creation, createOf, sideOf, newBitmap, createBitmap}
 
--- a new object: refused with 5, refused with 7, made
+-- a new object: refused with 5, refused with 7, created
 module _ (b : GdiState) (o : GdiObject) where
   pub full-plan : 256 ≤ b .count → createOf b o ≡ refuse 5 b
   unfolding createOf
@@ -29,7 +29,7 @@ module _ (b : GdiState) (o : GdiObject) where
     unfolding createOf
     creation-plan le = rw (lt-leb _ _ few, le-ltb _ _ le)
 
--- a new bitmap: its sides, refused with 6, or as any object
+-- a new bitmap: its sides; refused with 6, or created as any object
 pub side-fits : (n : ℕ) → n ≤ 4096 → side (sideOf n) ≡ true
 side-fits n le = by (eqb n 0) refl
   where

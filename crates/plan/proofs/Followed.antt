@@ -1,4 +1,4 @@
--- From the steps of a call to its plan followed. Assumes nothing.
+-- How the steps of a call show that its plan was followed. Assumes nothing.
 use mathlib.Core.Bool.{true}
 use mathlib.Core.List.{List, _++_}
 use mathlib.Core.Path.{_≡_, refl, sym, _∙_, ap, subst}
@@ -16,21 +16,21 @@ use Rattle.plan.specs.Stroke.{Stroke, dirtiedBy, paintsOf, drawnBy}
 use Rattle.plan.specs.Followed.{Followed}
 use Rattle.plan.proofs.Strokes.{Stroked, dirtied-by-count, stroked-then}
 
--- Strokes were made on a record lent as numbers.
+-- Strokes were made on a flat record.
 pub record StrokedOn (l : List ℕ) (ss : List Stroke) (ms : Memories) (l′ : List ℕ) (ms′ : Memories) : Type 0 where
   pub numbers : Updated l (dirtiedBy (view l) ss) l′
   pub memories : ms′ ≡ after (view l) (paintsOf ss) ms
 
--- stored twice, with as many objects
+-- two updates in turn, with the number of objects kept
 pub updated-twice : {l l₁ l′ : List ℕ} {b₁ b : GdiState} → b .count ≡ b₁ .count → Updated l b₁ l₁ → Updated l₁ b l′ → Updated l b l′
 updated-twice {l} {l₁} e s t = record { is-record = t .is-record; same = t .same; rest = t .rest ∙ subst (λ (n : ℕ). drop (slotPlace n) l₁ ≡ drop (slotPlace n) l) (sym e) (s .rest) }
 
--- another name of the plan
+-- an equal plan
 pub followed-as : {p q : Plan} {l : List ℕ} {ms : Memories} {a : Parts} {l′ : List ℕ} {ms′ : Memories} → p ≡ q → Followed q l ms a l′ ms′ → Followed p l ms a l′ ms′
 followed-as e f = rw e f
 
 module _ {p : Plan} {l : List ℕ} {ms : Memories} where
-  -- a refusal: of a record, and of any numbers
+  -- a refusal: on a record, and on any numbers
   pub refusal : {n : ℕ} → isRecord l ≡ true → p ≡ refuse n (view l) → Followed p l ms (refused n) l ms
   unfolding after
   refusal r e = record { answer = rw e; numbers = λ z. rw e (updated-same r); memories = rw e; kept = λ z. (refl, refl) }
@@ -39,7 +39,7 @@ module _ {p : Plan} {l : List ℕ} {ms : Memories} where
   unfolding after
   refusal-of-any ne e = record { answer = rw e; numbers = λ z. absurd (ne z); memories = rw e; kept = λ z. (refl, refl) }
 
-  -- an accepted call: by its steps; one that paints nothing; one that changes nothing
+  -- an accepted call: in general; one that paints nothing; one that changes nothing
   pub acceptance : {b : GdiState} {a : Parts} {l′ : List ℕ} {ms′ : Memories} → a .number ≡ 0 → p .outcome ≡ record { state = b; answer = a }
       → Updated l b l′ → ms′ ≡ after (view l) (p .paint) ms → Followed p l ms a l′ ms′
   acceptance {l′ = l′} z e s m =
@@ -57,7 +57,7 @@ module _ {p : Plan} {l : List ℕ} {ms : Memories} where
   pub acceptance-same : {a : Parts} → isRecord l ≡ true → a .number ≡ 0 → p ≡ recordOnly (view l) a → Followed p l ms a l ms
   acceptance-same r z e = acceptance-record-only z e (updated-same r)
 
--- strokes on the numbers are strokes on the record that they are; strokes made in two steps are the strokes of one list
+-- strokes on the numbers are strokes on the record that they encode; strokes made in two steps are the strokes of one list
 pub stroked-on : {l l′ : List ℕ} {ss : List Stroke} {ms ms′ : Memories} → StrokedOn l ss ms l′ ms′ → Stroked (view l) ss ms (view l′) ms′
 stroked-on x = record { state = x .numbers .same; memories = x .memories }
 
@@ -70,6 +70,6 @@ stroked-on-then {l} {l₁} {l′} {ss} {ts} x y =
       memories = z .memories;
     }
 
--- a call that made strokes, whose plan is theirs
+-- a call that made the strokes of its plan
 pub strokes-followed : {p : Plan} {l l′ : List ℕ} {ss : List Stroke} {ms ms′ : Memories} {a : Parts} → a .number ≡ 0 → p ≡ drawnBy (view l) ss a → StrokedOn l ss ms l′ ms′ → Followed p l ms a l′ ms′
 strokes-followed z e x = acceptance z (ap (λ (q : Plan). q .outcome) e) (x .numbers) (rw e (x .memories))

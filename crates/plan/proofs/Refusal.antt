@@ -1,4 +1,4 @@
--- Every refusal is one that changes nothing. Assumes nothing.
+-- No refused call changes anything. Assumes nothing.
 use mathlib.Core.Bool.{Bool, true, false, cond, _||_}
 use mathlib.Core.List.{List}
 use mathlib.Core.Path.{_≡_, refl}
@@ -29,7 +29,7 @@ use Rattle.plan.specs.Calls.{act, plan}
 use Rattle.plan.specs.Refusal.{numberOf, RefusalsKeep}
 use Rattle.plan.proofs.Cases.{pattern-fill-by, rectangle-by, text-by, blit-by, resize-by}
 
--- a plan that, if it refuses, changes nothing
+-- a plan that changes nothing if it refuses
 record Keeps (b : GdiState) (p : Plan) : Type 0 where
   keeps : (numberOf p ≡ 0 → ⊥) → p ≡ refuse (numberOf p) b
 
@@ -84,7 +84,7 @@ set old new b dc e = by (dcOf b dc)
     by (Is p d) = accepted b _ (e d)
     by Absent = refusal b 1
 
--- a line for each call
+-- one line for each call
 call : (c : Call) (us : List ℕ) (b : GdiState) → Keeps b (act c us b)
 unfolding act
 call CreateMemoryDc us b = create b _

@@ -1,4 +1,4 @@
--- Select and the settings change DC records alone: what stays of the device. Assumes nothing.
+-- Select and the settings change DC records alone; every surface stays in its place. Assumes nothing.
 use mathlib.Core.Bool.{Bool, true, false, cond}
 use mathlib.Core.List.{[]}
 use mathlib.Core.Path.{_≡_, refl}

@@ -21,7 +21,8 @@ pub record Stroked (b : GdiState) (ss : List Stroke) (ms : Memories) (b′ : Gdi
   pub state : b′ ≡ dirtiedBy b ss
   pub memories : ms′ ≡ after b (paintsOf ss) ms
 
--- the record after their dirty marks: one list after another, every surface in its place, every record in its slot, as many objects
+-- the record after the dirty marks: of one list after another; every surface stays in its place, every bitmap's record in its slot,
+-- and the number of objects is kept
 dirtied-by-append : (ss ts : List Stroke) (b : GdiState) → dirtiedBy b (ss ++ ts) ≡ dirtiedBy (dirtiedBy b ss) ts
 unfolding dirtiedBy
 dirtied-by-append [] ts b = refl
@@ -42,7 +43,7 @@ unfolding dirtiedBy
 dirtied-by-count [] b = refl
 dirtied-by-count (s ∷ ss) b = dirtied-by-count ss (dirtiedIf (s .due) (s .drawing .target) b) ∙ dirtied-if-count (s .due) (s .drawing .target) b
 
--- the memories after their drawings: one list after another
+-- the memories after the drawings of one list after another
 painted-append : (b : GdiState) (ss ts : List Stroke) (ms : Memories) → after b (paintsOf (ss ++ ts)) ms ≡ after b (paintsOf ts) (after b (paintsOf ss) ms)
 unfolding after paintsOf
 painted-append b [] ts ms = refl
@@ -64,14 +65,14 @@ module _ (b b′ : GdiState) (e : SamePlaces b b′) where
   same-drawings (s ∷ ss) ms = ap (after b′ (paintsOf ss)) (same-drawing (s .drawing) ms) ∙ same-drawings ss (paintedBy b (draw (s .drawing)) ms)
 
 module _ {b : GdiState} {ss : List Stroke} {ms : Memories} {r : GdiState} {ms₁ : Memories} (x : Stroked b ss ms r ms₁) where
-  -- the record after strokes: every surface in its place, and calls still looked at
+  -- the record after strokes: every surface in its place, and the device still ready
   pub stroked-still : Still b r
   stroked-still = rw (x .state) (dirtied-by-still ss b)
 
   pub stroked-ready : {n k n′ k′ : ℕ} → n′ ≡ n → k′ ≡ k → Ready b n k → Ready r n′ k′
   stroked-ready p q i = let t = stroked-still in record { sound = t .sound (i .sound); panel = p ∙ i .panel ∙ sym (t .panel-len); store = q ∙ i .store ∙ sym (t .store-len) }
 
-  -- a site that was found before them is one still
+  -- a site that was found before the strokes is still the same
   pub stroked-placed : {s : SurfaceId} {i : Site} → SiteFound b s i → SiteFound r s i
   stroked-placed {s} w =
       let t = stroked-still in

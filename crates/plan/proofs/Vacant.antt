@@ -1,4 +1,4 @@
--- The table keeps its 256 slots, and those past the count stay vacant, by every call. Assumes nothing.
+-- Every call keeps the 256 slots of the table, and those past the count vacant. Assumes nothing.
 use mathlib.Core.Bool.{Bool, true, false, cond, _||_}
 use mathlib.Core.List.{List, [], _∷_}
 use mathlib.Core.Path.{_≡_, refl, _∙_, ap}
@@ -47,7 +47,7 @@ use Rattle.plan.specs.Calls.{act, plan}
 use Rattle.plan.specs.Vacant.{Vacant, StaysVacant}
 use Rattle.plan.proofs.Cases.{pattern-fill-by, rectangle-by, text-by, blit-by, resize-by}
 
--- a slot behind the inserted one
+-- a slot after the inserted one
 behind : (l : List Slot) (n : ℕ) (s : Slot) → n ≤ length l → (i : ℕ) → n < i → getD (inserted l n s) i noSlot ≡ getD l i noSlot
 behind l n s long i lt =
     let h : length (take n l) ≡ n = length-take-le n l long in
@@ -62,7 +62,7 @@ inserted-long : (l : List Slot) (n : ℕ) (s : Slot) → n < length l → length
 inserted-long l n s lt = simp (length-append, length-take, length-drop) (omega arith)
 
 module _ (b : GdiState) (sound : Sound b) (v : Vacant b) where
-  -- an object more
+  -- one object is added
   added-vacant : (o : GdiObject) → b .count < 256 → Vacant (added b o)
   unfolding added
   added-vacant o few = record { table = inserted-long (b .objects) (b .count) _ (omega (arith, v .table)) ∙ v .table; vacant = λ i le lt. behind (b .objects) (b .count) _ (table-long sound) i (omega arith) ∙ v .vacant i (omega arith) lt }
@@ -84,7 +84,7 @@ module _ (b : GdiState) (sound : Sound b) (v : Vacant b) where
       by true = v
       by false = create-vacant (newBitmap w h)
 
-  -- an object less
+  -- one object is removed
   gone-vacant : (i : ℕ) → i < b .count → Vacant (withoutAt b i)
   unfolding withoutAt
   gone-vacant i lt = record { table = closed-length vacantSlot (b .objects) i 1 (b .count) (omega arith) (table-long sound) ∙ v .table; vacant = λ j le few. by j le few (decLt j (b .count)) }
@@ -105,7 +105,7 @@ module _ (b : GdiState) (sound : Sound b) (v : Vacant b) where
       by false (At i) e = gone-vacant i (found-count b h e)
       by false Nothing e = v
 
-  -- a DC changed
+  -- a DC's record changes
   updated-vacant : (dc : ℕ) (p : Spot) (d₀ d : Dc) → dcOf b dc ≡ Is p d₀ → Vacant (withDc b dc p d)
   updated-vacant dc Screen d₀ d e = record { table = v .table; vacant = v .vacant }
   updated-vacant dc (Created i) d₀ d e =
@@ -129,7 +129,7 @@ module _ (b : GdiState) (sound : Sound b) (v : Vacant b) where
       by (Is p d) e = updated-vacant dc p d _ e
       by Absent e = v
 
--- a mark made
+-- a dirty mark is made
 framed-vacant : (b : GdiState) → Vacant b → Vacant (nextFrame b)
 framed-vacant b v = record { table = v .table; vacant = v .vacant }
 
@@ -162,7 +162,7 @@ module _ (b : GdiState) (sound : Sound b) (v : Vacant b) where
   none : (n : ℕ) → After (refuse n b)
   none n = v
 
-  -- a line for each call
+  -- one line for each call
   act-vacant : (c : Call) (us : List ℕ) → Vacant (act c us b .outcome .state)
   unfolding act
   act-vacant CreateMemoryDc us = create-vacant b sound v _

@@ -1,11 +1,11 @@
--- What a call answers, by number and values.
+-- What a call answers: a number and values.
 use mathlib.Core.Bool.{Bool, false}
 use Prim.Native.Nat.{ℕ}
 use Rattle.gdi.specs.declared.GdiObject.{GdiObject}
 use Rattle.plan.specs.declared.Answer.{Answer}
 use Rattle.plan.specs.declared.Answer.the-variants.{Refused, Handle, Deleted, Removed, NotRemoved, OldColor, OldAlign, OldMode, Drawn, Advance}
 
--- an object's record that may be missing
+-- an object's record, or none
 pub data Object : Type 0 where
   none : Object
   some : GdiObject → Object

@@ -1,4 +1,4 @@
--- The calls, each by its plan, behind the refusals that all share.
+-- The plan of every call, after the refusals that all calls share.
 use mathlib.Core.Bool.{cond}
 use mathlib.Core.List.{List}
 use Prim.Native.Nat.{ℕ}
@@ -20,7 +20,7 @@ use Rattle.plan.specs.Settings.{setTextColor, setTextAlign, setBkColor, 
 use Rattle.plan.specs.Drawing.{patternFill, rectangle, text, blit}
 use Rattle.plan.specs.Panel.{panelFill, resize}
 
--- the plan of a call that is looked at; units are those of a text
+-- the plan of a call on a ready device; units are those of a text
 unfoldable pub act : Call → (units : List ℕ) → GdiState → Plan
 act CreateMemoryDc us b = createOf b (Dc defaultDc)
 act (CreateCompatibleBitmap w h) us b = createBitmap b w h
@@ -41,13 +41,13 @@ act (PanelFill c) us b = panelFill b (c .0)
 act (Resize w h) us b = resize b w h
 act (Blit dc a src from rop) us b = blit b dc a src from rop
 
--- the plan of a call, by the record and the memories' lengths: 9 and 8 come before all else
+-- the plan of a call, from the record and the memories' lengths: 9 and 8 come before all else
 unfoldable pub plan : Call → (units : List ℕ) → GdiState → (panel-len store-len : ℕ) → Plan
 plan c us b n k = cond (eqb (commonRefusal b n k) 0) (act c us b) (refuse (commonRefusal b n k) b)
 
 abbrev pub planOf : Call → (units : List ℕ) → GdiState → Memories → Plan
 planOf c us b ms = plan c us b (length (ms .panel)) (length (ms .store))
 
--- the plan of a call on a record lent as numbers: numbers that are no record are 9
+-- the plan of a call on a flat record: 9 if the numbers are no record
 unfoldable pub planOn : Call → (units l : List ℕ) → (panel-len store-len : ℕ) → Plan
 planOn c us l n k = cond (isRecord l) (plan c us (view l) n k) (refuse 9 (view l))

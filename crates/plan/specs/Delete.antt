@@ -1,4 +1,4 @@
--- Delete and remove: a created object goes, and the store closes up where its pixels were.
+-- Delete and remove: a created object is removed from the table, and its pixels from the store; the gap is closed.
 use mathlib.Core.Bool.{true, false, cond}
 use Prim.Native.Nat.{ℕ}
 use Rattle.gdi.specs.declared.GdiState.{GdiState}
@@ -11,18 +11,20 @@ use Rattle.plan.specs.Answer.{Parts, flagged, removed, done}
 use Rattle.paint.specs.Paint.{closing}
 use Rattle.plan.specs.Plan.{Plan, recordOnly}
 
+-- the plan for what the lookup of the handle h found: object i is removed, or there is none
 abbrev pub deletionAt : (gone : ℕ → Parts) (none : Parts) → GdiState → ℕ → Found → Plan
 deletionAt gone none b h (At i) = record { outcome = record { state = withoutAt b i; answer = gone i }; paint = closing b h i }
 deletionAt gone none b h Nothing = recordOnly b none
 
--- a stock object stays, a created one goes: the answers for a stock object, for the created object i, and for no object
+-- a stock object is kept, a created one is removed; the first arguments are the answers for a stock object, for the created object
+-- i, and for no object
 unfoldable pub deletionOf : (stock : Parts) (gone : ℕ → Parts) (none : Parts) → GdiState → ℕ → Plan
 deletionOf stock gone none b h = cond (isStock h) (recordOnly b stock) (deletionAt gone none b h (findOf b h))
 
--- stock true; absent false
+-- delete answers true for a stock handle and false for an absent one
 abbrev pub delete : GdiState → ℕ → Plan
 delete b h = deletionOf (flagged true) (λ i. flagged true) (flagged false) b h
 
--- stock or absent none; else the record without pixels
+-- remove answers nothing for a stock or absent handle, else the object's record without pixels
 abbrev pub remove : GdiState → ℕ → Plan
 remove b h = deletionOf done (λ i. removed (objectAt b i)) done b h

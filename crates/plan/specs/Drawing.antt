@@ -29,7 +29,7 @@ use Rattle.paint.specs.Paint.{black, sampled, Draw}
 use Rattle.plan.specs.Plan.{Plan, refuse}
 use Rattle.plan.specs.Stroke.{Stroke, drawnBy}
 
--- 1 no such DC, then 2 the DC has no surface
+-- 1 if there is no such DC, then 2 if the DC has no surface
 abbrev pub onTarget : GdiState → Target → (SurfaceId → Dc → Plan) → Plan
 onTarget b NoDc f = refuse 1 b
 onTarget b NoSurface f = refuse 2 b
@@ -60,12 +60,12 @@ boxOf a = box (a .x) (a .y) (a .w) (a .h)
 abbrev pub rimOf : Area → (x y : ℕ) → Bool
 rimOf a = rim (a .x) (a .y) (a .w) (a .h)
 
--- whether a drawing makes a mark, by the sides of the surface at this place
+-- whether a drawing makes a dirty mark, decided by the sides of the surface at this place
 abbrev pub marksAt : Place → ((width height : ℕ) → Bool) → Bool
 marksAt Nowhere f = false
 marksAt (At m p w h) f = f w h
 
--- the marks of a fill, an outline and a text
+-- the dirty marks of a fill, an outline and a text
 abbrev pub filledAt : Place → Area → Bool
 filledAt at a = marksAt at (λ width height. fillMarks width height (a .x) (a .y) (a .w) (a .h))
 
@@ -92,39 +92,39 @@ patternFillOn b a t s d = drawnBy b (fillStroke b s a t (packedOf (d .«brush_co
 unfoldable pub patternFill : GdiState → (dc : ℕ) → Area → (rop : ℕ) → Plan
 patternFill b dc a rop = onTarget b (targetOf b dc) (patternFillOn b a (tableOf rop))
 
--- rectangle: fill with brush, then outline with pen, each with its own mark
+-- rectangle: fill with the brush, then outline with the pen, each with its own dirty mark
 abbrev pub rectangleOn : GdiState → Area → SurfaceId → Dc → Plan
 rectangleOn b a s d = drawnBy b (fillStroke b s a 0xF0 (packedOf (d .«brush_color»)) ∷ outlineStroke b s a (packedOf (d .«pen_color»)) ∷ []) done
 
 unfoldable pub rectangle : GdiState → (dc : ℕ) → Area → Plan
 rectangle b dc a = onTarget b (targetOf b dc) (rectangleOn b a)
 
--- text: text colour, ink only; one mark if there was a unit; answers 6 times the units before unit 0 or the end
+-- text: ink in the text colour; one dirty mark if there was a unit; answers 6 times the units before unit 0 or the end
 abbrev pub textOn : GdiState → (units : List ℕ) → (n : ℕ) → Point → SurfaceId → Dc → Plan
 textOn b units n at s d = drawnBy b (textStroke b s units n at (packedOf (d .«text_color»)) ∷ []) (answered (6 * n))
 
--- last 10, over 65,535 units
+-- 10 if there are more than 65,535 units, asked last
 unfoldable pub text : GdiState → (units : List ℕ) → (dc : ℕ) → Point → Plan
 text b units dc at =
     onTarget b (targetOf b dc) (λ s d. cond (leb (unitCount units) 65535) (textOn b units (unitCount units) at s d) (refuse 10 b))
 
--- a blit's mark, by both surfaces' places
+-- a blit's dirty mark, decided by the sides of both surfaces
 abbrev pub blittedAt : (at from : Place) → Area → Point → Bool
 blittedAt at from a p =
     marksAt at (λ width height. marksAt from (λ src-w src-h. marks (blitOf width height (a .x) (a .y) (p .x) (p .y) (a .w) (a .h) src-w src-h)))
 
--- the region of a blit: the pixels of the area whose source pixel is inside the source, which lies at from
+-- the region of a blit: the pixels of the area whose source pixel is inside the source; `from` is where the source lies
 abbrev pub blitBox : (from : Place) → Area → Point → (x y : ℕ) → Bool
 blitBox from a p = drawnAt (a .x) (a .y) (p .x) (p .y) (a .w) (a .h) (widthOf from) (heightOf from)
 
--- the column and the row of the source pixel that is taken for a pixel
+-- the column and the row of a pixel's source pixel
 abbrev pub columnFor : Area → Point → ℕ → ℕ
 columnFor a p x = positive (sourceAt (a .x) (p .x) x)
 
 abbrev pub rowFor : Area → Point → ℕ → ℕ
 rowFor a p y = positive (sourceAt (a .y) (p .y) y)
 
--- the pixels of the clipped box, each from the pixel that is taken for it; the source lies at from
+-- the drawing of a blit: each pixel of the region gets its source pixel as source operand
 abbrev pub blitted : (target source : SurfaceId) → (from : Place) → Area → Point → (table pattern : ℕ) → Draw
 blitted s q from a p t c = record { target = s; region = blitBox from a p; table = t; pattern = c; source = sampled q (columnFor a p) (rowFor a p) }
 
@@ -136,7 +136,7 @@ blitStroke b s q a p t c = record { drawing = blitted s q (whereIs b q) a p t c;
 abbrev pub blitOn : GdiState → Area → Point → (table : ℕ) → SurfaceId → Dc → SurfaceId → Plan
 blitOn b a p t s d q = drawnBy b (blitStroke b s q a p t (packedOf (d .«brush_color»)) ∷ []) done
 
--- a code that ignores S is a pattern fill and the source handle is not looked at
+-- a code that ignores S is a pattern fill, and the source handle is not looked at
 unfoldable pub blit : GdiState → (dc : ℕ) → Area → (src : ℕ) → Point → (rop : ℕ) → Plan
 blit b dc a src p rop =
     cond (usesSrc (tableOf rop))

@@ -15,14 +15,14 @@ use Rattle.plan.specs.Plan.{Plan, recordOnly, refuse}
 use Rattle.plan.specs.Stroke.{Stroke, drawnBy}
 use Rattle.plan.specs.Drawing.{solid}
 
--- the whole panel in one colour, and one mark
+-- the whole panel in one colour, and one dirty mark
 abbrev pub panelFillStroke : (color : ℕ) → Stroke
 panelFillStroke c = record { drawing = solid Panel (λ x y. true) c; due = true }
 
 abbrev pub panelFill : GdiState → (color : ℕ) → Plan
 panelFill b c = drawnBy b (panelFillStroke c ∷ []) done
 
--- the panel turns black and marks once; b is the record before the mark, and the paints make the panel black
+-- the panel turns black, with one dirty mark; b is the record before the mark, ps are the paints that blank the panel
 abbrev pub turnedBlack : GdiState → List Paint → Plan
 turnedBlack b ps = record { outcome = record { state = dirtied b Panel; answer = done }; paint = ps }
 
@@ -34,7 +34,7 @@ resized b w h = turnedBlack (withSides b w h) (blank PanelMemory 0 (size w h) (o
 abbrev pub noEffect : GdiState → (width height : ℕ) → Bool
 noEffect b w h = (eqb w 0 || eqb h 0) || (eqb w (b .width) && eqb h (b .height))
 
--- does nothing; else 6 a side above 4,096, then 7 panel memory too short
+-- it does nothing; else 6 if a side is above 4,096, then 7 if the panel memory is too short
 unfoldable pub resize : GdiState → (width height : ℕ) → Plan
 resize b w h =
     cond (noEffect b w h) (recordOnly b done) (

@@ -5,17 +5,17 @@ use Rattle.gdi.specs.declared.GdiState.{GdiState}
 use Rattle.plan.specs.Answer.{Parts, refused}
 use Rattle.paint.specs.Paint.{Paint}
 
--- The record after, and the answer.
+-- The record after the call, and the answer.
 pub record Outcome : Type 0 where
   pub state : GdiState
   pub answer : Parts
 
--- The outcome, and the paints.
+-- A plan: the outcome, and the paints in their order.
 pub record Plan : Type 0 where
   pub outcome : Outcome
   pub paint : List Paint
 
--- no byte changes: the record and the answer
+-- a plan that changes no byte: the record after it, and the answer
 abbrev pub recordOnly : GdiState → Parts → Plan
 recordOnly b a = record { outcome = record { state = b; answer = a }; paint = [] }
 

@@ -1,4 +1,4 @@
--- Select: an object is tied into a DC.
+-- Select: an object is selected into a DC.
 use mathlib.Core.Bool.{Bool, true, false, cond}
 use Prim.Native.Nat.{ℕ}
 use Rattle.gdi.specs.declared.GdiState.{GdiState}
@@ -23,12 +23,12 @@ selectIn d h (Pen c) = withPen d h c
 selectIn d h Font = withFont d h
 selectIn d h Other = d
 
--- the stock bitmap before a first bitmap
+-- the handle of the selected bitmap; before a first selection it is the stock bitmap's
 abbrev pub bitmapOr : SelectedBitmap → ℕ
 bitmapOr Unset = stockBitmap
 bitmapOr (Chosen h) = h
 
--- the handle of that kind that the DC has
+-- the handle of this kind that the DC has selected
 abbrev pub selectedOf : Dc → Kind → ℕ
 selectedOf d Bitmap = bitmapOr (d .«selected_bitmap»)
 selectedOf d (Brush c) = d .«selected_brush»
@@ -36,7 +36,7 @@ selectedOf d (Pen c) = d .«selected_pen»
 selectedOf d Font = d .«selected_font»
 selectedOf d Other = 0
 
--- a kind that cannot be selected: a DC's, or none
+-- a kind that cannot be selected: a DC, or no object
 abbrev pub isOther : Kind → Bool
 isOther Bitmap = false
 isOther (Brush c) = false
@@ -44,6 +44,7 @@ isOther (Pen c) = false
 isOther Font = false
 isOther Other = true
 
+-- the plan for what the lookup of the DC found
 abbrev pub selectAt : GdiState → (dc h : ℕ) → Kind → DcFound → Plan
 selectAt b dc h k (Is p d) = recordOnly (withDc b dc p (selectIn d h k)) (answered (selectedOf d k))
 selectAt b dc h k Absent = recordOnly b (answered 0)

@@ -11,11 +11,12 @@ use Rattle.gdi.specs.Updates.{withDc, withTextColor, withTextAlign, withBkColor
 use Rattle.plan.specs.Answer.{Parts, answered, flagged}
 use Rattle.plan.specs.Plan.{Plan, recordOnly, refuse}
 
+-- the plan for what the lookup of the DC found
 abbrev pub settingAt : (old : Dc → Parts) (new : Dc → Dc) → GdiState → ℕ → DcFound → Plan
 settingAt old new b dc (Is p d) = recordOnly (withDc b dc p (new d)) (old d)
 settingAt old new b dc Absent = refuse 1 b
 
--- a setting changes one field of one DC record and answers the old value; 1 no such DC
+-- a setting changes one field of one DC record and answers the old value; 1 if there is no such DC
 unfoldable pub setting : (old : Dc → Parts) (new : Dc → Dc) → GdiState → ℕ → Plan
 setting old new b dc = settingAt old new b dc (dcOf b dc)
 

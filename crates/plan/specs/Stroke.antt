@@ -1,4 +1,4 @@
--- Strokes: the drawings of a call, each with whether its dirty mark is due; and the plan that they make.
+-- Strokes: the drawings of a call, each with whether its dirty mark is due; and the plan of a list of strokes.
 use mathlib.Core.Bool.{Bool}
 use mathlib.Core.List.{List, [], _∷_}
 use Rattle.gdi.specs.declared.GdiState.{GdiState}
@@ -22,7 +22,6 @@ unfoldable pub paintsOf : List Stroke → List Paint
 paintsOf [] = []
 paintsOf (s ∷ ss) = draw (s .drawing) ∷ paintsOf ss
 
--- The plan of an accepted drawing call, whatever it draws: the record and the paints follow from its strokes, here and nowhere
--- else.
+-- The plan of every accepted drawing call: the record has the dirty marks of its strokes, and the paints are their drawings.
 abbrev pub drawnBy : GdiState → List Stroke → Parts → Plan
 drawnBy b ss a = record { outcome = record { state = dirtiedBy b ss; answer = a }; paint = paintsOf ss }

@@ -14,7 +14,7 @@ pub record Vacant (b : GdiState) : Type 0 where
   pub table : length (b .objects) ≡ 256
   pub vacant : (i : ℕ) → b .count ≤ i → i < 256 → slotAt b i ≡ vacantSlot
 
--- It is so of a fresh record, and stays so by every call.
+-- A fresh record is so, and every call keeps it so.
 pub record StaysVacant : Type 0 where
   pub first : (panel-len store-len width height : ℕ) → Vacant (fresh panel-len store-len width height)
   pub stays : (c : Call) (units : List ℕ) (b : GdiState) (panel-len store-len : ℕ) → Vacant b → Vacant (plan c units b panel-len store-len .outcome .state)

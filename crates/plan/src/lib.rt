@@ -1,5 +1,4 @@
-// The calls on a device and their answers. What each call does is defined in specs/, as a plan that is made without a look at
-// a pixel's colour.
+// The calls on a device and their answers. specs/ defines what each call does, as a plan that is made without reading any pixel.
 use color::Colorref;
 use color::Rgb565;
 use gdi::GdiObject;
@@ -17,8 +16,7 @@ pub struct Point {
     pub y: i32,
 }
 
-// A call on a device. Handles are numbers; a call takes the handles of its DC and object as they come. A text's units stand
-// beside it.
+// A call on a device. Handles are numbers, and any number can be passed for one. A text's units are passed beside the call.
 pub enum Call {
     CreateMemoryDc,
     CreateCompatibleBitmap {
@@ -84,9 +82,9 @@ pub enum Call {
 pub enum Answer {
     // The number of the refusal.
     Refused(u32),
-    // The new object's handle; the handle that was selected before, 0 if nothing is selected.
+    // The new object's handle; for a selection the handle selected before, or 0 if the call selected nothing.
     Handle(u32),
-    // Whether the handle is deleted or stock.
+    // Whether the handle named an object: a created one, now deleted, or a stock object.
     Deleted(bool),
     // The record of the removed object.
     Removed(GdiObject),
@@ -95,7 +93,7 @@ pub enum Answer {
     OldColor(Colorref),
     OldAlign(u32),
     OldMode(bool),
-    // A drawing was made, if only of no pixel.
+    // The drawing was accepted, even if it covered no pixel.
     Drawn,
     // The text's advance: 6 times its units.
     Advance(u32),

@@ -30,7 +30,7 @@ digit-lt on = omega arith
 pub bit-lt : (n v : ℕ) → bit v n < 2
 bit-lt n v = digit-lt (bit-digit n v)
 
--- what a step of a mask gives: its last bit, and its half
+-- one step of a mask: its last bit, and its half
 last : (x y a : ℕ) → x ≡ y * 2 + a → a < 2 → x % 2 ≡ a
 last x y a e h = omega arith
 

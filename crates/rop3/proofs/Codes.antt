@@ -1,4 +1,4 @@
--- What a code leaves: its bits, its range, and the three tables that have a loop of their own. Assumes nothing.
+-- The result of a code: its bits, its range, and the three tables that have a loop of their own. Assumes nothing.
 use mathlib.Core.Path.{_≡_, refl, _∙_, ap}
 use Prim.Native.Nat.{ℕ, zero, suc, _+_, _*_, _-_, _/_, _^_, _<_}
 use native.Mathlib.Omega.{arith}
@@ -55,7 +55,7 @@ inverts on off on = refl
 inverts on on off = refl
 inverts on on on = refl
 
--- k bits of the number that is left of all ones
+-- the k bits of all ones less a number
 inverted-bit : (k n d : ℕ) → d < 2 ^ k → n < k → bit (2 ^ k - 1 - d) n ≡ 1 - bit d n
 inverted-bit zero n d h l = absurd (omega arith)
 inverted-bit (suc k) zero d h l = let e : 2 ^ suc k ≡ 2 * 2 ^ k = omega arith in omega arith

@@ -12,7 +12,7 @@ use Rattle.rop3.proofs.Bits.{Digit, off, on, bit-digit, bit-lt, fromBit
 same : (x y : ℕ) → differ x y ≡ false → x ≡ y
 same x y e = eqb-true x y (not-false (eqb x y) e)
 
--- an operand that is not used may be any bit
+-- an unused operand can be any bit
 module _ (f : ℕ → ℕ → ℕ → ℕ) (e : uses f ≡ false) (a b : ℕ) (h : a < 2) (k : b < 2) where
   equal : f a b 0 ≡ f a b 1
   equal = same (f a b 0) (f a b 1) (none 2 (λ y. differ (f a y 0) (f a y 1)) (none 2 (λ x. anyBelow 2 (λ y. differ (f x y 0) (f x y 1))) e a h) b k)

@@ -1,4 +1,4 @@
--- Ternary raster operations: what a raster code makes of pattern, source and destination, bit by bit.
+-- Ternary raster operations: the result of a raster code for pattern, source and destination, bit by bit.
 use mathlib.Core.Bool.{Bool, not}
 use Prim.Native.Nat.{ℕ, zero, suc, _+_, _*_, _/_, _%_}
 use lib.Dec.{eqb}

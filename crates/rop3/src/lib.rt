@@ -1,5 +1,5 @@
-// Ternary raster operations (ROP3): a code's table byte says what each bit of pattern, source and destination gives. Only
-// the table byte of a code has an effect, so all 256 tables are served.
+// Ternary raster operations (ROP3). The table byte of a code gives the result bit for each combination of a pattern, a source and a
+// destination bit. The other bits of a code have no effect, so there are 256 operations.
 ghost use mathlib.Core.Path.{_≡_};
 ghost use Prim.Native.Nat.{ℕ, _+_, _*_, _<_};
 ghost use Rattle.rop3.specs.Rop3.{bit, tableOf, applied, usesSrc, usesDst};
@@ -65,7 +65,7 @@ pub fn apply(rop: u32, pat: u16, src: u16, dst: u16) -> u16
     apply_table(table(rop), pat, src, dst)
 }
 
-// The same for a table byte, which a loop takes from its code once.
+// The same for a table byte, so that a loop takes it from the code once.
 pub fn apply_table(table: u8, pat: u16, src: u16, dst: u16) -> u16
     ensures { λ r. ⌜ r ≡ applied table pat src dst ⌝ }
 {
