@@ -1,9 +1,19 @@
 /* The proved device for hosts in C: GDI objects by handle, DCs, raster operations and an RGB565 panel.
    Link libhost.a, which `rt staticlib host` writes.
 
-   A device is RAVINEFORK_RECORD numbers and two memories, the panel's and the pixel store, all kept by the host and lent with
-   each call. The memories have the lengths that they had at open, must not overlap, and are kept by no function. What a function
-   cannot serve it refuses with a number, and then changes no number and no byte. */
+   A device is RAVINEFORK_RECORD numbers and two memories, the panel's and the pixel store. The host keeps all three and lends them
+   to each call; no function keeps a pointer. The memories keep the lengths that they had at open.
+
+   Slices are a pointer and a length each. What a caller has to guarantee:
+   - Each pointer points to as many elements as its length says.
+   - No two slices of one call overlap. At open: numbers, panel memory and store. At a call: numbers, units, panel memory and
+     store. At a snapshot: the output and the numbers, the output and the panel memory.
+   - Numbers are aligned as uint32_t and units as uint16_t. Panel memory, store and output need no alignment.
+   - A slice of length 0 may have any pointer, NULL too. Nothing is read or written through it: every access of a proved function
+     lies inside a slice, and an empty one has no element.
+
+   A function that cannot serve a call refuses it with a number. A refused call or snapshot changes no number and no byte. A refused
+   open changes no byte of the memories, but it writes the record: see ravinefork_open. */
 #ifndef RAVINEFORK_H
 #define RAVINEFORK_H
 
@@ -80,7 +90,7 @@ extern "C" {
 #define RAVINEFORK_RESIZE 17                  /* a width, b height */
 #define RAVINEFORK_BLIT 18                    /* dc, x, y, w, h, src source DC, src_x, src_y, a raster code */
 
-/* Refusals. */
+/* Refusals, each number once. 11 to 19 are kept for calls that are added later. */
 #define RAVINEFORK_NO_DC 1
 #define RAVINEFORK_NO_SURFACE 2
 #define RAVINEFORK_NO_SOURCE_DC 3
@@ -93,7 +103,7 @@ extern "C" {
 #define RAVINEFORK_TEXT_TOO_LONG 10
 #define RAVINEFORK_NO_CALL 255
 
-/* A call. What it does not name is not looked at. */
+/* A call. Fields that the call does not name are not read. */
 typedef struct ravinefork_call {
     uint32_t call;
     uint32_t dc;
@@ -108,8 +118,8 @@ typedef struct ravinefork_call {
     int32_t src_y;
 } ravinefork_call;
 
-/* An answer: the number of the refusal, 0 if there is none; a handle, COLORREF, alignment or advance; a flag, 0 or 1; a removed
-   object's kind and 12 numbers, RAVINEFORK_NO_OBJECT and zeros if there is none. */
+/* An answer: the number of the refusal, 0 if the call is accepted; a handle, COLORREF, alignment or advance; a flag, 0 or 1; the
+   kind and 12 numbers of a removed object, RAVINEFORK_NO_OBJECT and zeros if there is none. */
 typedef struct ravinefork_reply {
     uint32_t refusal;
     uint32_t value;
@@ -118,17 +128,19 @@ typedef struct ravinefork_reply {
     uint32_t fields[12];
 } ravinefork_reply;
 
-/* Opens a device with a panel of these sides. The number of the refusal, 0 if there is none. Refused with 6, 8 or 7, the record has
-   lengths and sides 0 and no object, which every call refuses with 9; with 9, for a numbers_len that is not RAVINEFORK_RECORD,
-   nothing changes. */
+/* Opens a device with a panel of these sides. Returns the number of the refusal, 0 if it is accepted.
+   Accepted, it writes a fresh record and makes the panel and the stock bitmap's pixel black.
+   Refused with 6, 8 or 7, it writes a record with lengths and sides 0, no object, and otherwise as fresh: the first
+   RAVINEFORK_SLOT(0) numbers. Every call on this record is refused with 9. The memories are not changed.
+   Refused with 9, if numbers_len is not RAVINEFORK_RECORD, it changes nothing. */
 uint32_t ravinefork_open(uint32_t *numbers, size_t numbers_len, uint8_t *panel, size_t panel_len, uint8_t *store,
                          size_t store_len, uint32_t width, uint32_t height);
 
-/* Performs a call. The units are those of a text, and are not looked at otherwise. */
+/* Performs a call. The units are those of a text; other calls do not read them. */
 ravinefork_reply ravinefork_perform(uint32_t *numbers, size_t numbers_len, ravinefork_call call, const uint16_t *units,
                                     size_t units_len, uint8_t *panel, size_t panel_len, uint8_t *store, size_t store_len);
 
-/* Snapshots of the panel. They answer the number of the refusal, 0 if there is none; refused, they leave the output alone. */
+/* Snapshots of the panel. They return the number of the refusal, 0 if accepted; a refused one does not change the output. */
 
 /* Red, green, blue and 255 for each pixel, row by row: 4 * width * height bytes. */
 uint32_t ravinefork_snapshot_rgba8888(const uint32_t *numbers, size_t numbers_len, const uint8_t *panel, size_t panel_len,
@@ -138,7 +150,7 @@ uint32_t ravinefork_snapshot_rgba8888(const uint32_t *numbers, size_t numbers_le
 uint32_t ravinefork_snapshot_ppm(const uint32_t *numbers, size_t numbers_len, const uint8_t *panel, size_t panel_len,
                                  uint8_t *out, size_t out_len);
 
-/* The length of a P6 picture of these sides; 0 for a side above 4,096. */
+/* The length of a P6 picture of these sides, also where a side is 0; 0 if a side is above 4,096. */
 size_t ravinefork_ppm_len(uint32_t width, uint32_t height);
 
 #ifdef __cplusplus

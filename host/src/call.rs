@@ -1,15 +1,15 @@
-//! The numbers of calls, as in call scripts, and what each takes of a
-//! [`HostCall`](crate::HostCall).
+//! The number of each call, as in call scripts, and the fields that it reads from
+//! a [`HostCall`](crate::HostCall).
 
-/// A new memory DC.
+/// Creates a memory DC.
 pub const CREATE_MEMORY_DC: u32 = 1;
-/// A new bitmap: width `a`, height `b`.
+/// Creates a bitmap: width `a`, height `b`.
 pub const CREATE_COMPATIBLE_BITMAP: u32 = 2;
-/// A new brush: COLORREF `a`.
+/// Creates a brush: COLORREF `a`.
 pub const CREATE_SOLID_BRUSH: u32 = 3;
-/// A new pen: COLORREF `a`, width `b`.
+/// Creates a pen: COLORREF `a`, width `b`.
 pub const CREATE_PEN: u32 = 4;
-/// A new font: height `h`.
+/// Creates a font: height `h`.
 pub const CREATE_FONT: u32 = 5;
 /// Deletes the object `a`.
 pub const DELETE: u32 = 6;
@@ -25,7 +25,7 @@ pub const SET_TEXT_ALIGN: u32 = 10;
 pub const SET_BK_COLOR: u32 = 11;
 /// Sets the background mode of `dc`: `a`, 1 for transparent or 0.
 pub const SET_BK_MODE: u32 = 12;
-/// Fills `x`, `y`, `w`, `h` on `dc` under the raster code `a`.
+/// Fills the box `x`, `y`, `w`, `h` on `dc` under the raster code `a`.
 pub const PATTERN_FILL: u32 = 13;
 /// Draws the rectangle `x`, `y`, `w`, `h` on `dc`.
 pub const RECTANGLE: u32 = 14;
@@ -35,6 +35,6 @@ pub const TEXT: u32 = 15;
 pub const PANEL_FILL: u32 = 16;
 /// Resizes the panel: width `a`, height `b`.
 pub const RESIZE: u32 = 17;
-/// Blits from `src_x`, `src_y` on `src` to `x`, `y`, `w`, `h` on `dc` under the
-/// raster code `a`.
+/// Blits from `src_x`, `src_y` on `src` to the box `x`, `y`, `w`, `h` on `dc`,
+/// under the raster code `a`.
 pub const BLIT: u32 = 18;

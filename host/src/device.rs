@@ -7,11 +7,11 @@ use crate::record::Record;
 use crate::refusal::Refusal;
 use crate::MAX_MEMORY;
 
-/// A record together with the panel memory and the pixel store. It owns the
-/// memories, or borrows them as a `Device<&mut [u8]>`.
+/// A record with its panel memory and its pixel store. It owns the memories, or
+/// borrows them as a `Device<&mut [u8]>`.
 ///
-/// Each call is refused or does what it says; refused, it changes nothing. What
-/// can be read of the record, see [`Record`].
+/// Each method below makes one call. A refused call changes no number and no
+/// byte. [`Record`] has the accessors for objects and settings.
 #[derive(Clone, Debug)]
 pub struct Device<M = Box<[u8]>> {
     record: Record,
@@ -20,25 +20,26 @@ pub struct Device<M = Box<[u8]>> {
 }
 
 impl Device {
-    /// Opens a device with new memories of these lengths. The panel takes
-    /// 2·width·height bytes of its memory; the store holds the stock bitmap in 2
-    /// bytes and each created bitmap in 2·width·height.
+    /// Opens a device with new memories of these lengths. The panel needs
+    /// 2·width·height bytes of its memory. The store needs 2 bytes for the stock
+    /// bitmap and 2·width·height for each created one.
     ///
-    /// Refused with 6, 8 or 7.
+    /// Refused with 6, 8 or 7; then there is no device.
     pub fn open(
         width: u32,
         height: u32,
         panel_len: usize,
         store_len: usize,
     ) -> Result<Device, Refusal> {
-        // One byte above the limit is as far above it as any number.
+        // A length above the limit is refused, so that one byte above it will do.
         let memory = |len: usize| vec![0; len.min(MAX_MEMORY + 1)].into_boxed_slice();
         Device::open_on(width, height, memory(panel_len), memory(store_len))
     }
 }
 
 impl<M: AsRef<[u8]> + AsMut<[u8]>> Device<M> {
-    /// Opens a device on these memories; as [`Device::open`].
+    /// Opens a device on these memories, as [`Device::open`] does. A refused open
+    /// changes no byte of them.
     pub fn open_on(
         width: u32,
         height: u32,
@@ -50,7 +51,7 @@ impl<M: AsRef<[u8]> + AsMut<[u8]>> Device<M> {
         Ok(Device { record, panel, store })
     }
 
-    /// The device that a record and its memories are.
+    /// A device from its record and its memories.
     pub fn from_parts(record: Record, panel: M, store: M) -> Device<M> {
         Device { record, panel, store }
     }
@@ -65,22 +66,22 @@ impl<M: AsRef<[u8]> + AsMut<[u8]>> Device<M> {
         &self.record
     }
 
-    /// The panel memory, whole.
+    /// The whole panel memory.
     pub fn panel(&self) -> &[u8] {
         self.panel.as_ref()
     }
 
-    /// The pixel store, whole.
+    /// The whole pixel store.
     pub fn store(&self) -> &[u8] {
         self.store.as_ref()
     }
 
-    /// The panel's pixels: rows follow each other, words are little-endian.
+    /// The panel's pixels, row by row, as little-endian words.
     pub fn panel_pixels(&self) -> &[u8] {
         self.panel().get(self.record.panel_place()).unwrap_or(&[])
     }
 
-    /// A bitmap's pixels.
+    /// The pixels of the bitmap with this handle.
     pub fn bitmap_pixels(&self, handle: Handle) -> Option<&[u8]> {
         self.store().get(self.record.bitmap_place(handle)?)
     }
@@ -95,22 +96,22 @@ impl<M: AsRef<[u8]> + AsMut<[u8]>> Device<M> {
         self.record.height()
     }
 
-    /// The panel's dirty marks.
+    /// How many dirty marks the panel has.
     pub fn frame_counter(&self) -> u64 {
         self.record.frame_counter()
     }
 
-    /// The object of a handle, created or stock.
+    /// The object with this handle, created or stock.
     pub fn get(&self, handle: Handle) -> Option<GdiObject> {
         self.record.get(handle)
     }
 
-    /// Performs a call as numbers.
+    /// Performs a call that is given as numbers.
     pub fn perform(&mut self, call: &HostCall, units: &[u16]) -> Reply {
         self.record.perform(call, units, self.panel.as_mut(), self.store.as_mut())
     }
 
-    /// Performs a call; its answer, if it is not refused.
+    /// Performs a call. Returns its answer, or its refusal.
     fn ask(&mut self, call: HostCall, units: &[u16]) -> Result<Reply, Refusal> {
         let reply = self.perform(&call, units);
         Refusal::check(reply.refusal).map(|()| reply)
@@ -124,7 +125,7 @@ impl<M: AsRef<[u8]> + AsMut<[u8]>> Device<M> {
         self.ask(call, &[]).map(|_| ())
     }
 
-    /// Creates a memory DC, which has no surface before a bitmap is selected.
+    /// Creates a memory DC. It has no surface until a bitmap is selected into it.
     /// Refused with 5.
     pub fn create_memory_dc(&mut self) -> Result<Handle, Refusal> {
         self.create(HostCall { call: call::CREATE_MEMORY_DC, ..HostCall::default() })
@@ -152,46 +153,47 @@ impl<M: AsRef<[u8]> + AsMut<[u8]>> Device<M> {
         self.create(HostCall { call: call::CREATE_FONT, h: height, ..HostCall::default() })
     }
 
-    /// Deletes an object. Answers false for an absent handle, true for a stock
-    /// one, which stays. Bitmaps behind a deleted one move up in the store.
+    /// Deletes an object. Returns false for an absent handle. For a stock handle
+    /// it returns true and keeps the object. Deleting a bitmap moves the bitmaps
+    /// behind it in the store.
     pub fn delete(&mut self, handle: Handle) -> Result<bool, Refusal> {
         let call = HostCall { call: call::DELETE, a: handle.0, ..HostCall::default() };
         self.ask(call, &[]).map(|reply| reply.flag == 1)
     }
 
-    /// Removes an object and answers its record, none of an absent or a stock
-    /// one. Bitmaps behind it move up in the store.
+    /// Removes an object and returns its record; none for an absent or a stock
+    /// handle. Removing a bitmap moves the bitmaps behind it in the store.
     pub fn remove(&mut self, handle: Handle) -> Result<Option<GdiObject>, Refusal> {
         let call = HostCall { call: call::REMOVE, a: handle.0, ..HostCall::default() };
         self.ask(call, &[]).map(|reply| reply.object())
     }
 
-    /// Selects an object into a DC. Answers the previous handle of its kind,
-    /// [`Handle::STOCK_DEFAULT_BITMAP`] for a first bitmap; 0 if the object is
-    /// absent or a DC, or the DC is absent. Colours of a brush and a pen are
-    /// copied into the DC.
+    /// Selects an object into a DC. Returns the handle of this kind that was
+    /// selected before, [`Handle::STOCK_DEFAULT_BITMAP`] for a first bitmap; 0 if
+    /// the object is absent or a DC, or if the DC is absent. The colour of a brush
+    /// or pen is copied into the DC.
     pub fn select_into(&mut self, dc: Handle, object: Handle) -> Result<Handle, Refusal> {
         let call = call::SELECT_INTO;
         self.create(HostCall { call, dc: dc.0, a: object.0, ..HostCall::default() })
     }
 
-    /// Sets a DC's text colour; the old one. Refused with 1.
+    /// Sets a DC's text colour and returns the old one. Refused with 1.
     pub fn set_text_color(&mut self, dc: Handle, color: Colorref) -> Result<Colorref, Refusal> {
         self.set(call::SET_TEXT_COLOR, dc, color.0).map(|reply| Colorref(reply.value))
     }
 
-    /// Sets a DC's text alignment; the old one. Refused with 1.
+    /// Sets a DC's text alignment and returns the old one. Refused with 1.
     pub fn set_text_align(&mut self, dc: Handle, align: u32) -> Result<u32, Refusal> {
         self.set(call::SET_TEXT_ALIGN, dc, align).map(|reply| reply.value)
     }
 
-    /// Sets a DC's background colour; the old one. Refused with 1.
+    /// Sets a DC's background colour and returns the old one. Refused with 1.
     pub fn set_bk_color(&mut self, dc: Handle, color: Colorref) -> Result<Colorref, Refusal> {
         self.set(call::SET_BK_COLOR, dc, color.0).map(|reply| Colorref(reply.value))
     }
 
-    /// Sets whether a DC's background is transparent; the old mode. Refused
-    /// with 1.
+    /// Sets whether a DC's background is transparent and returns the old mode.
+    /// Refused with 1.
     pub fn set_bk_mode(&mut self, dc: Handle, transparent: bool) -> Result<bool, Refusal> {
         self.set(call::SET_BK_MODE, dc, transparent.into()).map(|reply| reply.flag == 1)
     }
@@ -200,9 +202,9 @@ impl<M: AsRef<[u8]> + AsMut<[u8]>> Device<M> {
         self.ask(HostCall { call, dc: dc.0, a, ..HostCall::default() }, &[])
     }
 
-    /// Fills a box with the brush colour as the pattern, under a raster code of
-    /// [`rop3`](crate::rop3) or any other; the source operand is 0. Refused with
-    /// 1 or 2.
+    /// Fills a box under a raster code, one of [`rop3`](crate::rop3) or any other.
+    /// The pattern is the brush colour; the source operand is 0. Refused with 1
+    /// or 2.
     pub fn pattern_fill(&mut self, dc: Handle, area: Area, rop: u32) -> Result<(), Refusal> {
         self.draw(HostCall { a: rop, ..on(call::PATTERN_FILL, dc, area) })
     }
@@ -213,8 +215,8 @@ impl<M: AsRef<[u8]> + AsMut<[u8]>> Device<M> {
         self.draw(on(call::RECTANGLE, dc, area))
     }
 
-    /// Writes a text up to unit 0 or its end, ink only, in the text colour; its
-    /// advance, 6 for each unit. Refused with 1, 2 or 10.
+    /// Writes a text up to unit 0 or its end, in the text colour, without a
+    /// background. Returns its advance, 6 for each unit. Refused with 1, 2 or 10.
     pub fn text_out(&mut self, dc: Handle, at: Point, units: &[u16]) -> Result<u32, Refusal> {
         let area = Area { x: at.x, y: at.y, w: 0, h: 0 };
         self.ask(on(call::TEXT, dc, area), units).map(|reply| reply.value)
@@ -226,15 +228,15 @@ impl<M: AsRef<[u8]> + AsMut<[u8]>> Device<M> {
         self.draw(HostCall { call: call::PANEL_FILL, a, ..HostCall::default() })
     }
 
-    /// Gives the panel other sides and turns it black. With a side of 0 or the
-    /// present sides nothing happens. Refused with 6 or 7.
+    /// Gives the panel new sides and makes it black. If a side is 0, or both are
+    /// the present ones, it does nothing. Refused with 6 or 7.
     pub fn resize(&mut self, width: u32, height: u32) -> Result<(), Refusal> {
         self.draw(HostCall { call: call::RESIZE, a: width, b: height, ..HostCall::default() })
     }
 
-    /// Blits to a box from a place on a source DC, under a raster code; source
-    /// pixels are those before the call. Under a code that ignores the source it
-    /// is a pattern fill, and the source is not looked at. Refused with 1, 2, 3
+    /// Blits from a place on a source DC to a box, under a raster code. The source
+    /// pixels are those before the call. Under a code that does not use the source
+    /// it is a pattern fill and does not look up the source. Refused with 1, 2, 3
     /// or 4.
     pub fn blit(
         &mut self,

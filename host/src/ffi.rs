@@ -1,19 +1,19 @@
-//! The static library's functions. A slice goes as a pointer and a length. None
-//! of them asks anything of its caller but that these are a slice's.
+//! The static library's functions. They take a slice as a pointer and a length,
+//! and require nothing else of their caller than that these are a slice's.
 
-/// A call as numbers, by its number in [`crate::call`]. What a call does not
-/// name is not looked at.
+/// A call as numbers. [`crate::call`] has the number of each call and the fields
+/// that it reads; it does not read the others.
 #[repr(C)]
 #[derive(Clone, Copy, Debug, Default, PartialEq, Eq)]
 pub struct HostCall {
-    /// Which call.
+    /// The number of the call.
     pub call: u32,
-    /// The handle of the DC that is set, selected into or drawn on.
+    /// The handle of the DC that the call sets, selects into or draws on.
     pub dc: u32,
     /// The handle of a blit's source DC.
     pub src: u32,
-    /// A bitmap's or a panel's width, a colour, an object's handle, a setting or
-    /// a raster code.
+    /// The width of a bitmap or panel, a colour, an object's handle, a setting or a
+    /// raster code.
     pub a: u32,
     /// A height, or a pen's width.
     pub b: u32,
@@ -21,9 +21,9 @@ pub struct HostCall {
     pub x: i32,
     /// The top row.
     pub y: i32,
-    /// The width of what is drawn.
+    /// The width of the box that is drawn.
     pub w: i32,
-    /// The height of what is drawn, or a font's.
+    /// The height of the box that is drawn, or of a font.
     pub h: i32,
     /// The left column in a blit's source.
     pub src_x: i32,
@@ -31,20 +31,21 @@ pub struct HostCall {
     pub src_y: i32,
 }
 
-/// An answer as numbers. Refused, it has its number, and nothing else.
+/// An answer as numbers. If the call is refused, it has the refusal's number and
+/// nothing else.
 #[repr(C)]
 #[derive(Clone, Copy, Debug, PartialEq, Eq)]
 pub struct Reply {
-    /// The number of the refusal, 0 if there is none.
+    /// The number of the refusal; 0 if the call is accepted.
     pub refusal: u32,
     /// A handle, a COLORREF, an alignment, or a text's advance.
     pub value: u32,
-    /// Whether it was deleted, or the old background mode: 0 or 1.
+    /// Whether there was an object to delete, or the old background mode: 0 or 1.
     pub flag: u32,
-    /// A removed object's kind, as in a record; [`crate::NO_OBJECT`] if there is
-    /// none.
+    /// The kind of a removed object, as in a record; [`crate::NO_OBJECT`] if there
+    /// is none.
     pub kind: u32,
-    /// A removed object's numbers, as in a record.
+    /// The numbers of a removed object, as in a record.
     pub fields: [u32; 12],
 }
 
@@ -55,7 +56,7 @@ extern "C" {
     fn ravinefork_perform(numbers: *mut u32, numbers_len: usize, call: HostCall, units: *const u16, units_len: usize, panel: *mut u8, panel_len: usize, store: *mut u8, store_len: usize) -> Reply;
 }
 
-/// Opens a device; the number of the refusal, 0 if there is none.
+/// Opens a device. Returns the number of the refusal, 0 if it is accepted.
 pub(crate) fn open(
     numbers: &mut [u32],
     panel: &mut [u8],
@@ -63,8 +64,8 @@ pub(crate) fn open(
     width: u32,
     height: u32,
 ) -> u32 {
-    // SAFETY: each pointer and length is that of a slice, which the function has to itself until it
-    // returns; it keeps none of them.
+    // SAFETY: each pointer and length is that of a mutable slice, so that no two overlap and nothing
+    // else reads or writes them during the call. The function keeps no pointer.
     unsafe {
         ravinefork_open(
             numbers.as_mut_ptr(),
@@ -87,7 +88,7 @@ pub(crate) fn perform(
     panel: &mut [u8],
     store: &mut [u8],
 ) -> Reply {
-    // SAFETY: as in `open`; `units` is only read, and nothing writes to it meanwhile.
+    // SAFETY: as in `open`; `units` is a shared slice, which the function only reads.
     unsafe {
         ravinefork_perform(
             numbers.as_mut_ptr(),

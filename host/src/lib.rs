@@ -3,10 +3,11 @@
 //! host` writes.
 //!
 //! A [`Device`] holds a [`Record`], 3,605 numbers, with a panel memory and a pixel
-//! store, and makes the calls under the original's names. A host that keeps its
-//! own memories lends them to `Record::perform` instead. What an operation cannot
-//! serve it refuses with a number, a [`Refusal`], and changes nothing. No input
-//! makes it panic.
+//! store, and has a method for each call, with the original's name. A host that
+//! keeps its own memories lends them to [`Record::perform`] instead. A call that
+//! cannot be served is refused with a number, a [`Refusal`], and changes nothing.
+//! A refused [`Record::open`] writes the record and changes no byte. No input
+//! makes a call panic.
 //!
 //! ```
 //! use ravinefork::{Area, Device, Colorref, Handle, Point};
@@ -24,9 +25,9 @@
 //! let advance = device.text_out(screen, Point { x: 16, y: 30 }, &units)?;
 //!
 //! assert_eq!(advance, 48);
-//! // A mark for the rectangle's fill, one for its outline, one for the text.
+//! // One mark for the rectangle's fill, one for its outline, one for the text.
 //! assert_eq!(device.frame_counter(), 3);
-//! // Next to the outline, in the row below it.
+//! // The pixel below and right of the outline's corner is blue.
 //! let at = 2 * (240 * 21 + 11);
 //! assert_eq!(device.panel()[at..at + 2], 0x001F_u16.to_le_bytes());
 //! # Ok(())
@@ -53,19 +54,19 @@ pub use object::{
 pub use record::Record;
 pub use refusal::Refusal;
 
-/// The numbers of a record.
+/// How many numbers a record has.
 pub const RECORD: usize = SLOTS + SLOT * MAX_OBJECTS;
 /// Where the screen DC's numbers begin in a record.
 pub const SCREEN: usize = 9;
 /// Where the first slot's numbers begin in a record.
 pub const SLOTS: usize = SCREEN + DC;
-/// The numbers of a DC or an object.
+/// How many numbers a DC or another object has.
 pub const DC: usize = 12;
-/// The numbers of a slot: a handle, a kind, and those of the object.
+/// How many numbers a slot has: a handle, a kind, and those of the object.
 pub const SLOT: usize = 2 + DC;
-/// As many created objects a record can hold.
+/// The most created objects that a record can hold.
 pub const MAX_OBJECTS: usize = 256;
-/// The kind in a reply that has no object.
+/// The kind in a reply without an object.
 pub const NO_OBJECT: u32 = 5;
 /// The longest side.
 pub const MAX_SIDE: u32 = 4096;

@@ -1,17 +1,17 @@
-//! What a record holds: handles, colours, DCs and other objects, read out of its
+//! What a record holds: handles, colours, DCs and other objects, read from its
 //! numbers.
 
 use std::fmt;
 
-/// The handle of a DC or of another object, created or stock; 0 is none's.
+/// The handle of a DC or another object, created or stock. No object has 0.
 #[derive(Clone, Copy, Debug, Default, PartialEq, Eq, Hash, PartialOrd, Ord)]
 pub struct Handle(pub u32);
 
-/// A COLORREF, 0x00BBGGRR. Never taken for an [`Rgb565`] word.
+/// A COLORREF, 0x00BBGGRR. It is another type than an [`Rgb565`] word.
 #[derive(Clone, Copy, Debug, Default, PartialEq, Eq, Hash)]
 pub struct Colorref(pub u32);
 
-/// An RGB565 word, as pixels are. Never taken for a [`Colorref`].
+/// An RGB565 word: a pixel. It is another type than a [`Colorref`].
 #[derive(Clone, Copy, Debug, Default, PartialEq, Eq, Hash)]
 pub struct Rgb565(pub u16);
 
@@ -57,9 +57,9 @@ pub struct Area {
     pub x: i32,
     /// The top row.
     pub y: i32,
-    /// The columns; nothing is drawn if there is none.
+    /// The width; a box of width 0 or less has no pixel.
     pub w: i32,
-    /// The rows; nothing is drawn if there is none.
+    /// The height; a box of height 0 or less has no pixel.
     pub h: i32,
 }
 
@@ -72,21 +72,21 @@ pub struct Point {
     pub y: i32,
 }
 
-/// What a DC paints.
+/// The surface that a DC draws on.
 #[derive(Clone, Copy, Debug, PartialEq, Eq)]
 pub enum DcSurface {
     /// The panel.
     Screen,
-    /// Its selected bitmap.
+    /// The bitmap that is selected into it.
     Memory,
 }
 
 /// A DC's record.
 #[derive(Clone, Copy, Debug, PartialEq, Eq)]
 pub struct Dc {
-    /// What it paints.
+    /// The surface that it draws on.
     pub surface: DcSurface,
-    /// The selected bitmap; none before the first selection.
+    /// The selected bitmap; none before the first one is selected.
     pub selected_bitmap: Option<Handle>,
     /// The selected brush.
     pub selected_brush: Handle,
@@ -100,22 +100,22 @@ pub struct Dc {
     pub pen_color: Colorref,
     /// The text colour.
     pub text_color: Colorref,
-    /// The text alignment; it alters no drawing.
+    /// The text alignment; it has no effect on drawing.
     pub text_align: u32,
-    /// The background colour; it alters no drawing.
+    /// The background colour; it has no effect on drawing.
     pub bk_color: Colorref,
-    /// The background mode; it alters no drawing.
+    /// The background mode; it has no effect on drawing.
     pub bk_transparent: bool,
 }
 
 /// A bitmap's record; its pixels are in the store.
 #[derive(Clone, Copy, Debug, PartialEq, Eq)]
 pub struct Bitmap {
-    /// Pixels in a row.
+    /// Its width in pixels.
     pub width: u32,
-    /// Rows.
+    /// Its height in pixels.
     pub height: u32,
-    /// Whether it was drawn on.
+    /// Whether it has a dirty mark.
     pub host_dirty: bool,
 }
 
@@ -131,14 +131,14 @@ pub struct Brush {
 pub struct Pen {
     /// Its colour.
     pub color: Colorref,
-    /// Its width; outlines are one pixel thick all the same.
+    /// Its width. It has no effect: outlines are one pixel thick.
     pub width: u32,
 }
 
 /// A font's record.
 #[derive(Clone, Copy, Debug, PartialEq, Eq)]
 pub struct Font {
-    /// Its height; it alters no drawing.
+    /// Its height; it has no effect on drawing.
     pub height: i32,
 }
 
@@ -157,7 +157,7 @@ pub enum GdiObject {
     Font(Font),
 }
 
-/// A created object under its handle.
+/// A created object with its handle.
 #[derive(Clone, Copy, Debug, PartialEq, Eq)]
 pub struct Slot {
     /// Its handle.
@@ -167,7 +167,7 @@ pub struct Slot {
 }
 
 impl Dc {
-    /// The DC that these numbers are.
+    /// The DC with these numbers.
     pub(crate) fn of(numbers: &[u32; 12]) -> Dc {
         let &[surface, present, bitmap, brush, pen, font, colors @ ..] = numbers;
         let [brush_color, pen_color, text_color, text_align, bk_color, transparent] = colors;
@@ -188,7 +188,7 @@ impl Dc {
 }
 
 impl GdiObject {
-    /// The object that a kind and its numbers are; none of another kind.
+    /// The object of this kind with these numbers; none for an unknown kind.
     pub(crate) fn of(kind: u32, numbers: &[u32; 12]) -> Option<GdiObject> {
         let &[first, second, third, ..] = numbers;
         let color = Colorref(first);
@@ -205,7 +205,7 @@ impl GdiObject {
         })
     }
 
-    /// The object of a stock handle, the screen DC and the bitmap aside.
+    /// The stock object with this handle; none for the screen DC and the bitmap.
     pub(crate) fn stock(handle: Handle) -> Option<GdiObject> {
         let brush = |color| GdiObject::Brush(Brush { color: Colorref(color) });
         let pen = |color, width| GdiObject::Pen(Pen { color: Colorref(color), width });

@@ -1,4 +1,4 @@
-//! The device record as the numbers that a host keeps.
+//! The device record, as the numbers that a host keeps.
 
 use std::fmt;
 use std::ops::Range;
@@ -6,48 +6,54 @@ use std::ops::Range;
 use crate::ffi::{self, HostCall, Reply};
 use crate::object::{Bitmap, Dc, GdiObject, Handle, Slot};
 use crate::refusal::Refusal;
-use crate::{DC, RECORD, SCREEN, SLOT, SLOTS};
+use crate::{DC, MAX_OBJECTS, RECORD, SCREEN, SLOT, SLOTS};
 
 /// A device record: the numbers of a device, for hosts that lend their own
-/// memories. The panel memory and the store go with each call, and have the
-/// lengths that they had at [`open`](Record::open).
+/// memories. Each call takes the panel memory and the store, with the lengths
+/// that they had at [`open`](Record::open).
 ///
-/// It may hold any numbers, since each call checks them: what is no record or no
-/// sound one is refused with 9. The accessors read numbers of any kind; of ones
-/// that are no record they tell nothing of use.
-#[derive(Clone, PartialEq, Eq)]
+/// It may hold any numbers. Each call checks them, and refuses with 9 if they are
+/// not a sound record. The accessors accept any numbers; what they return has a
+/// meaning only for a sound record.
+///
+/// Two records are equal if they hold the same head, the same screen DC and the
+/// same created objects. The numbers past the last object mean nothing and are
+/// not compared.
+#[derive(Clone)]
 pub struct Record {
     numbers: Box<[u32]>,
 }
 
 impl Record {
-    /// As many numbers as a record has, all 0, which are no sound record.
+    /// [`RECORD`] numbers, all 0. They are not a sound record before an open.
     pub fn new() -> Record {
         Record { numbers: vec![0; RECORD].into() }
     }
 
-    /// The record that these numbers are. A device is saved and loaded by them,
-    /// together with its memories.
+    /// A record from its numbers. To load a device, load its numbers and its
+    /// memories.
     pub fn from_numbers(numbers: impl Into<Box<[u32]>>) -> Record {
         Record { numbers: numbers.into() }
     }
 
-    /// The numbers.
+    /// The numbers, those past the last object too.
     pub fn as_numbers(&self) -> &[u32] {
         &self.numbers
     }
 
-    /// The numbers.
+    /// The numbers, those past the last object too.
     pub fn into_numbers(self) -> Box<[u32]> {
         self.numbers
     }
 
-    /// Opens a device on these memories, with a panel of these sides: it has no
-    /// created object, and the panel and the stock bitmap's pixel are black.
+    /// Opens a device on these memories, with a panel of these sides. The record
+    /// is then fresh, without a created object, and the panel and the stock
+    /// bitmap's pixel are black.
     ///
-    /// Refused with 6, 8 or 7, the record's lengths and sides are 0, it has no
-    /// object, and all else is as on a fresh device. With 9, if there are not
-    /// [`RECORD`] numbers, nothing changes.
+    /// Refused with 6, 8 or 7, it writes a record with lengths and sides 0 and no
+    /// object, and otherwise as fresh: the first [`SLOTS`] numbers. Every call on
+    /// this record is refused with 9. No byte of the memories changes. Refused
+    /// with 9, if there are not [`RECORD`] numbers, it changes nothing.
     pub fn open(
         &mut self,
         width: u32,
@@ -58,7 +64,8 @@ impl Record {
         Refusal::check(ffi::open(&mut self.numbers, panel, store, width, height))
     }
 
-    /// Performs a call. The units are those of a text.
+    /// Performs a call. The units are those of a text; other calls do not read
+    /// them.
     pub fn perform(
         &mut self,
         call: &HostCall,
@@ -89,7 +96,7 @@ impl Record {
         self.at(3)
     }
 
-    /// The panel's dirty marks; goes round to 0 after the last number.
+    /// How many dirty marks the panel has; 0 follows the last number.
     pub fn frame_counter(&self) -> u64 {
         u64::from(self.at(5)) << 32 | u64::from(self.at(4))
     }
@@ -99,12 +106,12 @@ impl Record {
         Handle(self.at(6))
     }
 
-    /// Whether the stock bitmap was drawn on.
+    /// Whether the stock bitmap has a dirty mark.
     pub fn stock_dirty(&self) -> bool {
         self.at(7) == 1
     }
 
-    /// The created objects that are live.
+    /// How many created objects are live.
     pub fn count(&self) -> usize {
         self.at(8) as usize
     }
@@ -114,9 +121,9 @@ impl Record {
         Dc::of(&self.block(SCREEN))
     }
 
-    /// The created object at a place in the order of creation, from 0 on.
+    /// The created object at this place in the order of creation, from 0 on.
     pub fn slot(&self, i: usize) -> Option<Slot> {
-        if i >= self.count().min(crate::MAX_OBJECTS) {
+        if i >= self.count().min(MAX_OBJECTS) {
             return None;
         }
         let at = SLOTS + SLOT * i;
@@ -129,7 +136,7 @@ impl Record {
         (0..).map_while(|i| self.slot(i))
     }
 
-    /// The object of a handle, created or stock.
+    /// The object with this handle, created or stock.
     pub fn get(&self, handle: Handle) -> Option<GdiObject> {
         match handle {
             Handle::GDI_SCREEN_DC => Some(GdiObject::Dc(self.screen())),
@@ -145,7 +152,7 @@ impl Record {
         }
     }
 
-    /// The DC of a handle, created or the screen DC.
+    /// The DC with this handle: a created one or the screen DC.
     pub fn dc(&self, handle: Handle) -> Option<Dc> {
         match self.get(handle)? {
             GdiObject::Dc(dc) => Some(dc),
@@ -153,7 +160,7 @@ impl Record {
         }
     }
 
-    /// The bitmap of a handle, created or stock.
+    /// The bitmap with this handle, created or stock.
     pub fn bitmap(&self, handle: Handle) -> Option<Bitmap> {
         match self.get(handle)? {
             GdiObject::Bitmap(bitmap) => Some(bitmap),
@@ -161,14 +168,14 @@ impl Record {
         }
     }
 
-    /// The panel's bytes in the panel memory.
+    /// Where the panel's bytes lie in the panel memory.
     pub fn panel_place(&self) -> Range<usize> {
         0..bytes(self.width(), self.height())
     }
 
-    /// A bitmap's bytes in the store, until an object is next deleted or removed:
-    /// the stock bitmap has bytes 0 and 1, created ones follow in order of
-    /// creation without a gap.
+    /// Where a bitmap's bytes lie in the store, until the next delete or remove.
+    /// The stock bitmap has bytes 0 and 1; created ones follow in order of creation
+    /// without a gap.
     pub fn bitmap_place(&self, handle: Handle) -> Option<Range<usize>> {
         let mut start = 2;
         if handle == Handle::STOCK_DEFAULT_BITMAP {
@@ -186,16 +193,33 @@ impl Record {
         None
     }
 
-    /// A number; 0 past the last.
+    /// The number at this place; 0 past the last one.
     fn at(&self, i: usize) -> u32 {
         self.numbers.get(i).copied().unwrap_or(0)
     }
 
-    /// The numbers of a DC or an object.
+    /// The numbers of the head, the screen DC and the created objects; all numbers
+    /// if their length or count is not a record's.
+    fn used(&self) -> &[u32] {
+        if self.numbers.len() != RECORD || self.count() > MAX_OBJECTS {
+            return &self.numbers;
+        }
+        &self.numbers[..SLOTS + SLOT * self.count()]
+    }
+
+    /// The numbers of the DC or object that begins here.
     fn block(&self, start: usize) -> [u32; DC] {
         std::array::from_fn(|i| self.at(start + i))
     }
 }
+
+impl PartialEq for Record {
+    fn eq(&self, other: &Record) -> bool {
+        self.numbers.len() == other.numbers.len() && self.used() == other.used()
+    }
+}
+
+impl Eq for Record {}
 
 impl Default for Record {
     fn default() -> Record {
@@ -219,7 +243,7 @@ impl fmt::Debug for Record {
     }
 }
 
-/// The bytes of a surface.
+/// How many bytes a surface of these sides has.
 fn bytes(width: u32, height: u32) -> usize {
     let bytes = u128::from(width) * u128::from(height) * 2;
     usize::try_from(bytes).unwrap_or(usize::MAX)

@@ -2,63 +2,97 @@
 
 use std::error::Error;
 use std::fmt;
+use std::num::NonZeroU32;
 
-/// The number with which an operation is refused, never 0. Refused, it changes
-/// no number of the record and no byte of the memories.
+/// The number with which a function refuses. It is never 0, which stands for
+/// 'accepted' in a [`Reply`](crate::Reply).
+///
+/// A refused call or snapshot changes no number of the record and no byte that
+/// it was lent. A refused [`open`](crate::Record::open) changes no byte either,
+/// but it writes the record: see there.
 #[derive(Clone, Copy, Debug, PartialEq, Eq, Hash, PartialOrd, Ord)]
-pub struct Refusal(pub u32);
+pub struct Refusal(NonZeroU32);
+
+/// One row for each number: its constant, with a comment, and what it means.
+/// The compiler rejects a number that stands in two rows.
+macro_rules! refusals {
+    ($($(#[$comment:meta])* $name:ident = $number:literal: $meaning:literal;)*) => {
+        impl Refusal {
+            $($(#[$comment])* pub const $name: Refusal = Refusal::constant($number);)*
+
+            /// What the number means; none if the library never refuses with it.
+            #[deny(unreachable_patterns)]
+            pub const fn meaning(self) -> Option<&'static str> {
+                match self.number() {
+                    $($number => Some($meaning),)*
+                    _ => None,
+                }
+            }
+        }
+    };
+}
+
+refusals! {
+    /// There is no such DC.
+    NO_DC = 1: "no such DC";
+    /// The DC has no surface: no bitmap was selected, or it was deleted.
+    NO_SURFACE = 2: "the DC has no surface";
+    /// There is no such source DC.
+    NO_SOURCE_DC = 3: "no such source DC";
+    /// The source DC has no surface.
+    NO_SOURCE_SURFACE = 4: "the source DC has no surface";
+    /// 256 created objects are live.
+    TOO_MANY_OBJECTS = 5: "256 created objects are live";
+    /// A side is outside its limits.
+    SIDE = 6: "a side is outside its limits";
+    /// The panel memory or the store is too short: for the panel at open and at a
+    /// resize, for the stock bitmap at open, for a new bitmap.
+    TOO_SHORT = 7: "the panel memory or the store is too short";
+    /// A memory has a wrong length: above the limit at open, not the record's at a
+    /// call, not the picture's at a snapshot.
+    LENGTH = 8: "a memory has a wrong length";
+    /// The record is unsound, or the numbers are no record.
+    UNSOUND_RECORD = 9: "the record is unsound";
+    /// A text has over 65,535 units before unit 0 or its end.
+    TEXT_TOO_LONG = 10: "a text has over 65,535 units";
+    // 11 to 19 are kept for calls that are added later.
+    /// The numbers are no call.
+    NO_CALL = 255: "no such call";
+}
 
 impl Refusal {
-    /// There is no such DC.
-    pub const NO_DC: Refusal = Refusal(1);
-    /// The DC has no surface: no bitmap was selected, or it is gone.
-    pub const NO_SURFACE: Refusal = Refusal(2);
-    /// There is no such source DC.
-    pub const NO_SOURCE_DC: Refusal = Refusal(3);
-    /// The source DC has no surface.
-    pub const NO_SOURCE_SURFACE: Refusal = Refusal(4);
-    /// 256 created objects are live.
-    pub const TOO_MANY_OBJECTS: Refusal = Refusal(5);
-    /// A side is outside its limit.
-    pub const SIDE: Refusal = Refusal(6);
-    /// The panel memory or the store is too short.
-    pub const TOO_SHORT: Refusal = Refusal(7);
-    /// A memory has a wrong length: at open above the limit, at a call not the
-    /// record's, at a snapshot not that of the picture.
-    pub const LENGTH: Refusal = Refusal(8);
-    /// The record is unsound, or the numbers are no record.
-    pub const UNSOUND_RECORD: Refusal = Refusal(9);
-    /// A text has over 65,535 units before unit 0 or its end.
-    pub const TEXT_TOO_LONG: Refusal = Refusal(10);
-    /// The numbers are no call.
-    pub const NO_CALL: Refusal = Refusal(255);
+    /// The refusal with this number; none for 0.
+    pub const fn new(number: u32) -> Option<Refusal> {
+        match NonZeroU32::new(number) {
+            Some(number) => Some(Refusal(number)),
+            None => None,
+        }
+    }
 
-    /// The refusal of this number, if it is one.
+    /// The number, never 0.
+    pub const fn number(self) -> u32 {
+        self.0.get()
+    }
+
+    /// `Err` with the refusal of this number, `Ok` for 0.
     pub(crate) fn check(number: u32) -> Result<(), Refusal> {
-        match number {
-            0 => Ok(()),
-            _ => Err(Refusal(number)),
+        Refusal::new(number).map_or(Ok(()), Err)
+    }
+
+    /// A constant's refusal. A constant with number 0 does not compile where it is
+    /// used.
+    const fn constant(number: u32) -> Refusal {
+        match Refusal::new(number) {
+            Some(refusal) => refusal,
+            None => panic!("0 is no refusal"),
         }
     }
 }
 
 impl fmt::Display for Refusal {
     fn fmt(&self, f: &mut fmt::Formatter<'_>) -> fmt::Result {
-        let meaning = match *self {
-            Refusal::NO_DC => "no such DC",
-            Refusal::NO_SURFACE => "the DC has no surface",
-            Refusal::NO_SOURCE_DC => "no such source DC",
-            Refusal::NO_SOURCE_SURFACE => "the source DC has no surface",
-            Refusal::TOO_MANY_OBJECTS => "256 created objects are live",
-            Refusal::SIDE => "a side is outside its limit",
-            Refusal::TOO_SHORT => "the panel memory or the store is too short",
-            Refusal::LENGTH => "a memory has a wrong length",
-            Refusal::UNSOUND_RECORD => "the record is unsound",
-            Refusal::TEXT_TOO_LONG => "a text has over 65,535 units",
-            Refusal::NO_CALL => "no such call",
-            Refusal(_) => "no refusal of this library",
-        };
-        write!(f, "refused with {}: {meaning}", self.0)
+        let meaning = self.meaning().unwrap_or("no refusal of this library");
+        write!(f, "refused with {}: {meaning}", self.number())
     }
 }
 

@@ -1,6 +1,6 @@
-//! Raster codes by their Win32 names. Any other code does as well: bits 16 to 23
-//! are its table, whose bit 4P + 2S + D is the result for pattern, source and
-//! destination bits P, S and D; other bits have no effect.
+//! Raster codes by their Win32 names. Calls take any other code too. Bits 16 to 23
+//! of a code are its table: bit 4P + 2S + D of the table is the result for the
+//! pattern, source and destination bits P, S and D. Other bits have no effect.
 
 #![allow(missing_docs)]
 

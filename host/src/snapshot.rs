@@ -1,4 +1,4 @@
-//! Snapshots of the panel: as RGBA bytes, and as a P6 picture.
+//! Snapshots of the panel, as RGBA bytes and as a P6 picture.
 
 #![allow(unsafe_code)]
 
@@ -15,14 +15,14 @@ extern "C" {
     fn ravinefork_ppm_len(width: u32, height: u32) -> usize;
 }
 
-/// The length of a P6 picture of these sides; 0 for a side above
-/// [`MAX_SIDE`].
+/// The length of a P6 picture of these sides, also where a side is 0; 0 if a side
+/// is above [`MAX_SIDE`].
 pub fn ppm_len(width: u32, height: u32) -> usize {
-    // SAFETY: it takes and answers numbers only.
+    // SAFETY: it takes and returns numbers only.
     unsafe { ravinefork_ppm_len(width, height) }
 }
 
-/// The length of the RGBA bytes of these sides; 0 for a side above
+/// How many RGBA bytes a panel of these sides has; 0 if a side is above
 /// [`MAX_SIDE`].
 pub fn rgba8888_len(width: u32, height: u32) -> usize {
     match (width, height) {
@@ -33,11 +33,12 @@ pub fn rgba8888_len(width: u32, height: u32) -> usize {
 
 impl Record {
     /// Writes the panel's pixels as red, green, blue and 255, row by row. The
-    /// output has 4·width·height bytes. Refused with 9 or 8.
+    /// output must have 4·width·height bytes. Refused with 9 or 8; then the output
+    /// is unchanged.
     pub fn snapshot_rgba8888_into(&self, panel: &[u8], out: &mut [u8]) -> Result<(), Refusal> {
         let numbers = self.as_numbers();
         // SAFETY: each pointer and length is that of a slice. The function writes to `out` alone,
-        // which it has to itself until it returns; it keeps none of them.
+        // which is a mutable slice, so that it overlaps neither of the others. It keeps no pointer.
         Refusal::check(unsafe {
             ravinefork_snapshot_rgba8888(
                 numbers.as_ptr(),
@@ -50,8 +51,8 @@ impl Record {
         })
     }
 
-    /// Writes the panel as a P6 picture. The output has [`ppm_len`] bytes.
-    /// Refused with 9 or 8.
+    /// Writes the panel as a P6 picture. The output must have [`ppm_len`] bytes.
+    /// Refused with 9 or 8; then the output is unchanged.
     pub fn snapshot_ppm_into(&self, panel: &[u8], out: &mut [u8]) -> Result<(), Refusal> {
         let numbers = self.as_numbers();
         // SAFETY: as in `snapshot_rgba8888_into`.
@@ -90,7 +91,7 @@ mod tests {
     use super::*;
     use crate::{rop3, Area, Handle, Rgb565};
 
-    /// A red pixel, and one with all its bits inverted.
+    /// A panel of two pixels: a red one, and one with all its bits inverted.
     fn two() -> Device {
         let mut device = Device::open(2, 1, 4, 2).expect("a device");
         device.panel_fill(Rgb565(0xF800)).expect("a fill");
@@ -111,7 +112,7 @@ mod tests {
     #[test]
     fn lengths() {
         let sides = [(2, 1, 17), (240, 320, 15 + 3 * 76_800), (4096, 4096, 17 + 3 * 16_777_216)];
-        for (width, height, len) in sides {
+        for (width, height, len) in sides.into_iter().chain([(0, 5, 11), (0, 0, 11)]) {
             assert_eq!(ppm_len(width, height), len);
         }
         for (width, height) in [(4097, 1), (1, 4097), (u32::MAX, u32::MAX)] {

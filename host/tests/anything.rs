@@ -1,6 +1,6 @@
-//! Any numbers at all as record, call and lengths: no fault, no byte outside the
-//! lent memories touched, a refused call changes nothing, and an accepted one
-//! leaves a record that calls accept.
+//! Calls with any numbers as record and call: there is no fault, no byte outside
+//! the lent memories changes, a refused call changes nothing, and an accepted call
+//! leaves a sound record.
 
 mod random;
 
@@ -14,7 +14,7 @@ const CALLS: u32 = 60;
 /// Bytes around each lent memory.
 const AROUND: usize = 64;
 
-/// A device with a few objects, as numbers and memories.
+/// A device with a few objects: its record and its memories.
 fn device(random: &mut Random) -> Result<(Record, Vec<u8>, Vec<u8>), Refusal> {
     let (width, height) = (1 + random.below(30), 1 + random.below(30));
     let panel_len = (2 * width * height + random.below(900)) as usize;
@@ -28,7 +28,7 @@ fn device(random: &mut Random) -> Result<(Record, Vec<u8>, Vec<u8>), Refusal> {
             2 => _ = device.create_pen(Colorref(random.number()), 1)?,
             3 => _ = device.create_font(random.coordinate())?,
             _ => {
-                // It may not fit.
+                // The store may be full.
                 if let Ok(bitmap) =
                     device.create_compatible_bitmap(random.below(20), random.below(20))
                 {
@@ -41,7 +41,7 @@ fn device(random: &mut Random) -> Result<(Record, Vec<u8>, Vec<u8>), Refusal> {
     Ok((record, panel.into(), store.into()))
 }
 
-/// Memory within bytes that nothing may touch.
+/// The memory between bytes that must not change.
 fn guarded(memory: &[u8]) -> Vec<u8> {
     [&[0x77; AROUND], memory, &[0x77; AROUND]].concat()
 }

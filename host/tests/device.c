@@ -1,5 +1,5 @@
-/* Opens a device, draws on it and prints what it came to. The header's structs must be laid out as the Rust declarations, which
-   come as LAYOUT: a size or an offset each. */
+/* Opens a device, draws on it, and prints the answers and the panel. LAYOUT is a list of assertions: the sizes and offsets of the
+   header's structs, and the numbers that it names, must be those of the Rust declarations. */
 #include "ravinefork.h"
 
 #include <stdio.h>

@@ -1,8 +1,10 @@
-//! A host in C: the header compiles without a warning, its structs are laid out
-//! as the Rust declarations, and a program that draws prints what it should.
+//! Hosts in C: the header compiles without a warning, its structs have the layout
+//! of the Rust declarations, a program that draws prints the panel that the same
+//! calls give in Rust, and empty slices may be NULL.
 
+use std::io::{ErrorKind, Write};
 use std::mem::{offset_of, size_of};
-use std::path::Path;
+use std::path::{Path, PathBuf};
 use std::process::Command;
 
 use ravinefork::{
@@ -12,8 +14,8 @@ use ravinefork::{
 
 const FOLDER: &str = env!("CARGO_MANIFEST_DIR");
 
-/// Sizes and offsets as the C program asserts them, and the numbers that the
-/// header gives names to.
+/// The assertions that the C program compiles: the sizes and offsets of the
+/// structs, and the numbers that the header names.
 fn layout() -> String {
     let mut asserts = String::new();
     macro_rules! layout {
@@ -33,8 +35,11 @@ fn layout() -> String {
             );)*
         };
     }
-    macro_rules! same {
-        ($wrap:ident: $($name:ident)*) => { numbers!($($name $wrap::$name.0),*) };
+    macro_rules! handles {
+        ($($name:ident)*) => { numbers!($($name Handle::$name.0),*) };
+    }
+    macro_rules! refusals {
+        ($($name:ident)*) => { numbers!($($name Refusal::$name.number()),*) };
     }
     macro_rules! calls {
         ($($name:ident)*) => { numbers!($($name call::$name),*) };
@@ -45,39 +50,58 @@ fn layout() -> String {
     calls!(CREATE_MEMORY_DC CREATE_COMPATIBLE_BITMAP CREATE_SOLID_BRUSH CREATE_PEN CREATE_FONT);
     calls!(DELETE REMOVE SELECT_INTO SET_TEXT_COLOR SET_TEXT_ALIGN SET_BK_COLOR SET_BK_MODE);
     calls!(PATTERN_FILL RECTANGLE TEXT PANEL_FILL RESIZE BLIT);
-    same!(Handle: GDI_HANDLE_BASE GDI_SCREEN_DC STOCK_WHITE_BRUSH STOCK_LTGRAY_BRUSH);
-    same!(Handle: STOCK_GRAY_BRUSH STOCK_BLACK_BRUSH STOCK_NULL_BRUSH STOCK_WHITE_PEN);
-    same!(Handle: STOCK_BLACK_PEN STOCK_NULL_PEN STOCK_DKGRAY_BRUSH STOCK_SYSTEM_FONT);
-    same!(Handle: STOCK_DEFAULT_BITMAP);
-    same!(Refusal: NO_DC NO_SURFACE NO_SOURCE_DC NO_SOURCE_SURFACE TOO_MANY_OBJECTS SIDE);
-    same!(Refusal: TOO_SHORT LENGTH UNSOUND_RECORD TEXT_TOO_LONG NO_CALL);
+    handles!(GDI_HANDLE_BASE GDI_SCREEN_DC STOCK_WHITE_BRUSH STOCK_LTGRAY_BRUSH);
+    handles!(STOCK_GRAY_BRUSH STOCK_BLACK_BRUSH STOCK_NULL_BRUSH STOCK_WHITE_PEN);
+    handles!(STOCK_BLACK_PEN STOCK_NULL_PEN STOCK_DKGRAY_BRUSH STOCK_SYSTEM_FONT);
+    handles!(STOCK_DEFAULT_BITMAP);
+    refusals!(NO_DC NO_SURFACE NO_SOURCE_DC NO_SOURCE_SURFACE TOO_MANY_OBJECTS SIDE);
+    refusals!(TOO_SHORT LENGTH UNSOUND_RECORD TEXT_TOO_LONG NO_CALL);
     asserts
 }
 
-/// Compiles the program; none if there is no C compiler.
-fn compiled(program: &Path, define: &str) -> Option<bool> {
+/// Compiles `tests/SOURCE.c` with these options into a program. Its path, or what
+/// the compiler prints as errors. None where there is no C compiler; then it says
+/// so, past the capture of a test's output, and fails if `REQUIRE_CC` is set.
+fn compiled(source: &str, name: &str, options: &[String]) -> Option<Result<PathBuf, String>> {
+    let program = Path::new(env!("CARGO_TARGET_TMPDIR")).join(name);
     let cc = Command::new("cc")
+        .env("LC_ALL", "C")
         .args(["-std=c11", "-Wall", "-Wextra", "-Werror", "-O1", "-g"])
-        .arg(format!("-DLAYOUT={define}"))
+        .args(options)
         .arg(format!("-I{FOLDER}/include"))
-        .arg(format!("{FOLDER}/tests/device.c"))
+        .arg(format!("{FOLDER}/tests/{source}.c"))
         .arg(format!("{FOLDER}/../target/staticlib/libhost.a"))
         .arg("-o")
-        .arg(program)
+        .arg(&program)
         .output();
     match cc {
-        Err(error) => {
-            eprintln!("skipped, there is no cc: {error}");
+        Err(error) if error.kind() == ErrorKind::NotFound => {
+            let skipped = "skipped: no C compiler (cc)";
+            assert!(std::env::var_os("REQUIRE_CC").is_none(), "{skipped}, and REQUIRE_CC is set");
+            _ = writeln!(std::io::stderr(), "{source}.c {skipped}");
             None
         }
-        Ok(output) => {
-            eprint!("{}", String::from_utf8_lossy(&output.stderr));
-            Some(output.status.success())
-        }
+        Err(error) => panic!("cc: {error}"),
+        Ok(output) if output.status.success() => Some(Ok(program)),
+        Ok(output) => Some(Err(String::from_utf8_lossy(&output.stderr).into_owned())),
     }
 }
 
-/// The same device in Rust, as the program prints its panel.
+/// The layout as an option of the compiler.
+fn define(layout: &str) -> [String; 1] {
+    [format!("-DLAYOUT={layout}")]
+}
+
+/// What a compiled program prints.
+fn output_of(compiled: Result<PathBuf, String>) -> String {
+    let program =
+        compiled.unwrap_or_else(|errors| panic!("the program does not compile:\n{errors}"));
+    let output = Command::new(&program).output().expect("the program runs");
+    assert!(output.status.success(), "{output:?}");
+    String::from_utf8(output.stdout).expect("the program prints text")
+}
+
+/// The panel of the same calls in Rust, as the C program prints it.
 fn picture() -> Result<String, Refusal> {
     let screen = Handle::GDI_SCREEN_DC;
     let mut device = Device::open(24, 16, 2 * 24 * 16, 64)?;
@@ -101,24 +125,47 @@ fn picture() -> Result<String, Refusal> {
 
 #[test]
 fn a_host_in_c() {
-    let program = Path::new(env!("CARGO_TARGET_TMPDIR")).join("device");
-    let Some(good) = compiled(&program, &layout()) else { return };
-    assert!(good, "the program does not compile");
-    let output = Command::new(&program).output().expect("the program");
-    assert!(output.status.success());
-    let printed = String::from_utf8(output.stdout).expect("lines");
+    let Some(program) = compiled("device", "device", &define(&layout())) else { return };
     let lines = "open 9\nopen 0\npen dead1000\nbefore it dead5707\nadvance 18\n\
                  removed 3: 000000ff 3\nno DC 1\nno call 255\nno text 0\nno memory 8\nno record 9\nframes 4\n";
     let picture = picture().expect("a picture");
     println!("{picture}");
-    assert_eq!(printed, format!("{lines}{picture}"));
+    assert_eq!(output_of(program), format!("{lines}{picture}"));
+}
+
+#[test]
+fn null_with_length_0() {
+    let Some(program) = compiled("empty", "empty", &[]) else { return };
+    let lines = "\
+        open, no numbers: 9\n\
+        open, no store: 7\n\
+        open, no panel memory: 7\n\
+        open, neither: 7\n\
+        sides 0 by 0, next handle dead1000, bytes 5a a5\n\
+        text, after a refused open: 9 0\n\
+        open, both: 0\n\
+        text, no units: 0 0\n\
+        text, a unit: 0 6\n\
+        text, no store: 8 0\n\
+        text, no panel memory: 8 0\n\
+        text, no numbers: 9 0\n\
+        snapshots, no output: 8 8\n\
+        snapshots, nothing: 9 9\n";
+    assert_eq!(output_of(program), lines);
 }
 
 #[test]
 fn a_layout_that_differs_does_not_compile() {
-    let program = Path::new(env!("CARGO_TARGET_TMPDIR")).join("wrong");
-    let wrong = layout().replace("AT(ravinefork_call, src, 8)", "AT(ravinefork_call, src, 12)");
-    if let Some(good) = compiled(&program, &wrong) {
-        assert!(!good);
-    }
+    let right = "AT(ravinefork_call, src, 8)";
+    let layout = layout();
+    assert_eq!(layout.matches(right).count(), 1);
+    let wrong = layout.replace(right, "AT(ravinefork_call, src, 12)");
+    let Some(program) = compiled("device", "wrong", &define(&wrong)) else { return };
+    // One error, and it is the assertion about `src`; older clangs say `static_assert failed`.
+    let messages = program.expect_err("a wrong layout compiles");
+    let errors: Vec<_> = messages.lines().filter(|line| line.contains("error:")).collect();
+    let [error] = errors[..] else { panic!("not one error:\n{messages}") };
+    let asserted = ["static assertion failed", "static_assert failed"];
+    assert!(asserted.iter().any(|text| error.contains(text)), "{messages}");
+    assert!(error.contains("\"src\"") || error.ends_with(": src"), "{messages}");
 }

@@ -1,4 +1,4 @@
-//! Random call scripts give the lines that the original gives. `SCRIPTS=3000 cargo test --offline --test original` compares more.
+//! Random call scripts print the same lines as the original. `SCRIPTS=3000 cargo test --offline --test original` compares more.
 
 mod script;
 
@@ -8,12 +8,12 @@ use std::process::{Command, Output, Stdio};
 
 use script::{assert_lines, path, printed};
 
-/// How many scripts are compared.
+/// How many scripts to compare.
 fn scripts() -> u64 {
     std::env::var("SCRIPTS").map_or(120, |number| number.parse().expect("SCRIPTS is a number"))
 }
 
-/// The comparison's program, built if it is not there.
+/// The comparison's program; it is built if there is none.
 fn compare() -> PathBuf {
     let program = path("compare/target/release/compare");
     if !program.exists() {
@@ -32,7 +32,7 @@ fn run(arguments: &[&str], input: &[u8]) -> Output {
         .stderr(Stdio::piped())
         .spawn()
         .expect("the comparison");
-    // It need not read all of it.
+    // The program may end before it has read everything.
     _ = program.stdin.take().expect("its input").write_all(input);
     program.wait_with_output().expect("its output")
 }

@@ -1,6 +1,7 @@
-//! The committed records, as in docs/record-cases.md: every call refuses each as
-//! the specification's list says, and a refused call changes nothing. The screen
-//! DC paints the panel whatever its surface says.
+//! Makes every call on each of the committed records (docs/record-cases.md). The
+//! refusals are those of the specification's list, and a refused call changes
+//! nothing. The screen DC draws on the panel whatever its surface field holds.
+//! Records are equal if the numbers up to the last object are.
 
 use std::fs;
 
@@ -11,10 +12,10 @@ use ravinefork::{
 
 const FOLDER: &str = concat!(env!("CARGO_MANIFEST_DIR"), "/../crates/records");
 
-/// The number of a DC's surface that is a bitmap.
+/// The surface number of a memory DC.
 const MEMORY: u32 = 1;
 
-/// Takes numbers off the front of the stream.
+/// Reads numbers from the front of the stream.
 struct Stream<'a>(&'a [u8]);
 
 impl Stream<'_> {
@@ -24,7 +25,7 @@ impl Stream<'_> {
         number.iter().fold(0, |all, &byte| all << 8 | u64::from(byte))
     }
 
-    /// A number of the record, none if it has more than 32 bits.
+    /// A number of the record; none if it needs more than 32 bits.
     fn wide(&mut self) -> Option<u32> {
         self.number(8).try_into().ok()
     }
@@ -33,7 +34,7 @@ impl Stream<'_> {
         self.number(4) as u32
     }
 
-    /// A handle, a kind and the object's numbers.
+    /// A slot: a handle, a kind and the object's numbers.
     fn slot(&mut self) -> [u32; SLOT] {
         let mut slot = [0; SLOT];
         slot[0] = self.word();
@@ -53,8 +54,8 @@ impl Stream<'_> {
         slot
     }
 
-    /// A record's numbers and the lent lengths; no numbers if they have more
-    /// than 32 bits.
+    /// A record's numbers and the lent lengths; no numbers if one of them needs
+    /// more than 32 bits.
     fn record(&mut self) -> (Option<Vec<u32>>, [usize; 2]) {
         let lengths = [self.wide(), self.wide()];
         let sides = [self.word(), self.word()];
@@ -88,7 +89,7 @@ fn screen(surface: u32) -> [u32; DC] {
     screen
 }
 
-/// Whether the sample's call turns the first pixel of the screen DC's surface black.
+/// Whether the call below makes the first pixel of the screen DC's surface black.
 fn blackens(call: u32) -> bool {
     matches!(call, call::PATTERN_FILL | call::RECTANGLE | call::BLIT)
 }
@@ -103,7 +104,7 @@ fn the_sample() {
         let (numbers, [panel_len, store_len]) = stream.record();
         let number = line.strip_prefix(&format!("record {i} ")).expect("the record's line");
         let Some(numbers) = numbers else {
-            assert_eq!(number, "9", "{line}: a number of over 32 bits");
+            assert_eq!(number, "9", "{line}: a number needs more than 32 bits");
             wide += 1;
             continue;
         };
@@ -132,7 +133,7 @@ fn the_sample() {
     }
     assert!(stream.0.is_empty());
     assert!(memory_screens > 0, "no sound record has a screen DC that says memory");
-    println!("{tried} records, {wide} with numbers of over 32 bits");
+    println!("{tried} records, and {wide} with numbers of more than 32 bits");
 }
 
 #[test]
@@ -148,7 +149,7 @@ fn a_screen_dc_that_says_memory_paints_the_panel() {
     let column = Area { x: 0, y: 0, w: 1, h: 2 };
     assert_eq!(device.pattern_fill(dc, column, rop3::WHITENESS), Ok(()));
     assert_eq!(device.panel(), [0xFF, 0xFF, 0, 0, 0xFF, 0xFF, 0, 0]);
-    // As a source as well.
+    // It is the source of a blit as well.
     let corner = Area { x: 1, y: 1, w: 1, h: 1 };
     assert_eq!(device.blit(dc, corner, dc, Point { x: 0, y: 0 }, rop3::SRCCOPY), Ok(()));
     assert_eq!(device.panel(), [0xFF, 0xFF, 0, 0, 0xFF, 0xFF, 0xFF, 0xFF]);
@@ -156,4 +157,43 @@ fn a_screen_dc_that_says_memory_paints_the_panel() {
     assert_eq!(device.frame_counter(), 2);
     let screen = device.record().screen();
     assert_eq!((screen.surface, screen.selected_bitmap), (DcSurface::Memory, Some(bitmap)));
+}
+
+#[test]
+fn equal_records() {
+    let mut device = Device::open(2, 2, 8, 10).expect("a device");
+    device.create_compatible_bitmap(2, 2).expect("a bitmap");
+    device.create_font(-9).expect("a font");
+    let record = device.record();
+    let numbers = record.as_numbers();
+    let used = SLOTS + SLOT * record.count();
+    let with = |i: usize, number| {
+        let mut numbers = numbers.to_vec();
+        numbers[i] = number;
+        Record::from_numbers(numbers)
+    };
+    // The numbers past the last object are not compared.
+    for (i, &number) in numbers.iter().enumerate().skip(used) {
+        assert!(with(i, !number) == *record, "number {i}");
+    }
+    let mut other = numbers.to_vec();
+    other[used..].fill(u32::MAX);
+    assert_eq!(Record::from_numbers(other), *record);
+    // Every number up to there is compared.
+    for (i, &number) in numbers.iter().enumerate().take(used) {
+        assert!(with(i, !number) != *record, "number {i}");
+        assert!(with(i, number ^ 1) != *record, "number {i}");
+    }
+    // Numbers that are no record are compared whole.
+    assert_ne!(Record::from_numbers(&numbers[..used]), *record);
+    assert_ne!(Record::from_numbers(&numbers[..RECORD - 1]), *record);
+    let longer = |last| Record::from_numbers([numbers, &[last]].concat());
+    assert!(longer(0) == longer(0) && longer(0) != longer(1) && longer(0) != *record);
+    let count = 8;
+    let many = |last| {
+        let mut numbers = with(count, 257).into_numbers();
+        numbers[RECORD - 1] = last;
+        Record::from_numbers(numbers)
+    };
+    assert!(many(0) == many(0) && many(0) != many(1));
 }

@@ -1,5 +1,6 @@
-//! What is refused, with which number, and that it changes nothing; and what the
-//! accessors read.
+//! What is refused, and with which number. A refused call changes nothing; a
+//! refused open writes the record and changes no byte. And what the accessors
+//! read.
 
 use pocket_kernel::gdi::{self, GdiState};
 use ravinefork::{
@@ -11,8 +12,8 @@ const SCREEN_DC: Handle = Handle::GDI_SCREEN_DC;
 const AREA: Area = Area { x: 0, y: 0, w: 2, h: 2 };
 const AT: Point = Point { x: 0, y: 0 };
 
-/// A panel of 4 by 3 in 30 bytes, a store of 64, an object of each kind: a DC
-/// with a bitmap, a brush, a pen, a font.
+/// A device with a panel of 4 by 3 in 30 bytes, a store of 64 bytes, and an object
+/// of each kind: a DC with a bitmap, a brush, a pen and a font.
 fn device() -> (Device, [Handle; 5]) {
     let mut device = Device::open(4, 3, 30, 64).expect("a device");
     let handles = [
@@ -27,7 +28,7 @@ fn device() -> (Device, [Handle; 5]) {
     (device, handles)
 }
 
-/// A call of every kind.
+/// Every call once.
 fn calls() -> Vec<HostCall> {
     let dc = SCREEN_DC.0;
     let of = |call| HostCall { call, dc, src: dc, a: 1, b: 1, w: 2, h: 2, ..HostCall::default() };
@@ -38,7 +39,8 @@ fn refused(number: u32) -> Reply {
     Reply { refusal: number, value: 0, flag: 0, kind: 5, fields: [0; 12] }
 }
 
-/// Every call on these numbers is refused with the number and changes nothing.
+/// Asserts that every call on these numbers is refused with this number and
+/// changes nothing.
 fn all_refused(numbers: &[u32], number: u32, of: &str) {
     let lens = [30, 64].map(|len| (0..len).collect::<Vec<u8>>());
     for call in calls() {
@@ -51,7 +53,7 @@ fn all_refused(numbers: &[u32], number: u32, of: &str) {
     }
 }
 
-/// The accessors, which must not panic whatever the numbers are.
+/// Calls every accessor; none may panic, whatever the numbers are.
 fn read_all(record: &Record) {
     for handle in (0..300).map(|i| Handle(Handle::GDI_HANDLE_BASE.0.wrapping_add(i))) {
         _ = (record.get(handle), record.dc(handle), record.bitmap_place(handle));
@@ -96,7 +98,7 @@ fn numbers_that_are_no_record() {
             wrong(&[(SLOTS + SLOT * slot + 1, kind)], 9, "the kind");
         }
     }
-    // The first number past a bitmap's, a brush's, a pen's and a font's, to the last.
+    // Each number past the fields of a bitmap, a brush, a pen and a font.
     for (slot, fields) in [(1, 3), (2, 1), (3, 2), (4, 1)] {
         for past in fields..12 {
             wrong(&[(SLOTS + SLOT * slot + 2 + past, 1)], 9, "a number past the fields");
@@ -135,7 +137,7 @@ fn records_that_are_unsound() {
     all_refused(&vec![0; RECORD], 9, "zeros");
     all_refused(&vec![u32::MAX; RECORD], 9, "ones");
     read_all(&Record::from_numbers(vec![u32::MAX; RECORD]));
-    // Past the last object anything may stand.
+    // The numbers past the last object may hold anything.
     let mut numbers = good;
     numbers[slot(5)..].fill(u32::MAX);
     let mut record = Record::from_numbers(numbers);
@@ -153,9 +155,9 @@ fn numbers_that_are_no_call() {
     for call in none.into_iter().chain(more).chain([of(call::PANEL_FILL, u32::MAX)]) {
         let mut after = device.clone();
         assert_eq!(after.perform(&call, &[]), refused(255), "{call:?}");
-        assert_eq!(after.record(), device.record());
+        assert_eq!(after.record().as_numbers(), device.record().as_numbers());
         assert_eq!((after.panel(), after.store()), (device.panel(), device.store()));
-        // It is not looked at whether the numbers are a record.
+        // The call is refused before the record is checked.
         let mut record = Record::from_numbers([]);
         assert_eq!(record.perform(&call, &[], &mut [], &mut []), refused(255));
     }
@@ -198,19 +200,35 @@ fn open() {
 
 #[test]
 fn a_refused_open_leaves_a_record_without_a_device() {
-    let (mut panel, mut store) = ([0x5A; 23], [0xA5; 4]);
-    let mut record = Record::from_numbers(vec![7; RECORD]);
-    assert_eq!(record.open(4, 3, &mut panel, &mut store), Err(Refusal::TOO_SHORT));
-    assert_eq!((panel, store), ([0x5A; 23], [0xA5; 4]));
-    assert_eq!((record.panel_len(), record.store_len()), (0, 0));
-    assert_eq!((record.width(), record.height(), record.count()), (0, 0, 0));
-    assert_eq!((record.frame_counter(), record.next_handle()), (0, Handle::GDI_HANDLE_BASE));
-    all_refused(record.as_numbers(), 9, "after a refused open");
+    let mut fresh = Record::new();
+    fresh.open(1, 1, &mut [0; 2], &mut [0; 2]).expect("a device");
+    let mut head = fresh.as_numbers()[..SLOTS].to_vec();
+    // Lengths and sides are 0; the other numbers are those of a fresh device.
+    head[..4].fill(0);
+    let refusals = [(0, 3, 23, Refusal::SIDE), (4, 3, 23, Refusal::TOO_SHORT)];
+    let too_long = (4, 3, MAX_MEMORY + 1, Refusal::LENGTH);
+    for (width, height, panel_len, refusal) in refusals.into_iter().chain([too_long]) {
+        let (mut panel, mut store) = (vec![0x5A; panel_len], [0xA5; 4]);
+        let mut record = Record::from_numbers(vec![7; RECORD]);
+        assert_eq!(record.open(width, height, &mut panel, &mut store), Err(refusal));
+        assert!(panel.iter().all(|&byte| byte == 0x5A) && store == [0xA5; 4]);
+        assert_eq!(record.as_numbers()[..SLOTS], head);
+        assert!(record.as_numbers()[SLOTS..].iter().all(|&number| number == 7));
+        assert_eq!((record.panel_len(), record.store_len()), (0, 0));
+        assert_eq!((record.width(), record.height(), record.count()), (0, 0, 0));
+        assert_eq!((record.frame_counter(), record.next_handle()), (0, Handle::GDI_HANDLE_BASE));
+        all_refused(record.as_numbers(), 9, "after a refused open");
+    }
+}
+
+#[test]
+fn an_open_on_another_number_of_numbers_changes_nothing() {
+    let (mut panel, mut store) = ([0x5A; 24], [0xA5; 4]);
     for len in [0, RECORD - 1, RECORD + 1] {
         let mut record = Record::from_numbers(vec![7; len]);
         assert_eq!(record.open(1, 1, &mut panel, &mut store), Err(Refusal::UNSOUND_RECORD));
         assert_eq!(record.as_numbers(), vec![7; len]);
-        assert_eq!((panel, store), ([0x5A; 23], [0xA5; 4]));
+        assert_eq!((panel, store), ([0x5A; 24], [0xA5; 4]));
     }
 }
 
@@ -246,24 +264,24 @@ fn each_refusal_of_a_call() {
     assert_eq!(device.rectangle(bare, AREA), Err(Refusal::NO_SURFACE));
     assert_eq!(device.text_out(bare, AT, &[0x41; 65_536]), Err(Refusal::NO_SURFACE));
     assert_eq!(device.blit(bare, AREA, none, AT, rop3::SRCCOPY), Err(Refusal::NO_SURFACE));
-    // 3 and 4: the same for the source, unless the code ignores it.
+    // 3 and 4: the same for the source, unless the code does not use it.
     let source = device.blit(dc, AREA, none, AT, rop3::SRCCOPY);
     assert_eq!(source, Err(Refusal::NO_SOURCE_DC));
     let source = device.blit(dc, AREA, bare, AT, rop3::SRCCOPY);
     assert_eq!(source, Err(Refusal::NO_SOURCE_SURFACE));
     assert_eq!(device.clone().blit(dc, AREA, none, AT, rop3::PATINVERT), Ok(()));
-    // 6, and 7 with 32 of 64 bytes taken.
+    // 6 a side; 7 with 32 of 64 bytes in use.
     assert_eq!(device.create_compatible_bitmap(4097, 0), Err(Refusal::SIDE));
     assert_eq!(device.create_compatible_bitmap(1, u32::MAX), Err(Refusal::SIDE));
     assert_eq!(device.create_compatible_bitmap(1, 17), Err(Refusal::TOO_SHORT));
     assert_eq!(device.resize(4097, 1), Err(Refusal::SIDE));
     assert_eq!(device.resize(4, 4), Err(Refusal::TOO_SHORT));
-    // 10.
+    // 10: a text that is too long.
     assert_eq!(device.text_out(dc, AT, &[0x41; 65_536]), Err(Refusal::TEXT_TOO_LONG));
-    // None of this changed anything.
-    assert_eq!(device.record(), before.record());
+    // No refused call has changed anything.
+    assert_eq!(device.record().as_numbers(), before.record().as_numbers());
     assert_eq!((device.panel(), device.store()), (before.panel(), before.store()));
-    // Just what is not refused.
+    // The largest that is accepted.
     assert_eq!(device.text_out(dc, AT, &[0x41; 65_535]), Ok(6 * 65_535));
     let stopped = [[0x41; 65_535].as_slice(), &[0; 9]].concat();
     assert_eq!(device.text_out(dc, AT, &stopped), Ok(6 * 65_535));
@@ -288,8 +306,8 @@ fn the_257th_object() {
     assert_eq!(device.create_solid_brush(Colorref(0)), Err(Refusal::TOO_MANY_OBJECTS));
     assert_eq!(device.create_pen(Colorref(0), 1), Err(Refusal::TOO_MANY_OBJECTS));
     assert_eq!(device.create_font(1), Err(Refusal::TOO_MANY_OBJECTS));
-    assert_eq!(device.record(), before.record());
-    // The last one is at the store's end; without the first it is not.
+    assert_eq!(device.record().as_numbers(), before.record().as_numbers());
+    // The last bitmap is at the store's end; when the first is deleted, it moves.
     let last = Handle(Handle::GDI_HANDLE_BASE.0 + 255);
     assert_eq!(device.record().bitmap_place(last), Some(512..514));
     assert_eq!(device.delete(Handle::GDI_HANDLE_BASE), Ok(true));
@@ -356,21 +374,21 @@ fn counters_go_round() {
         device.panel_fill(Rgb565(1)).expect("a fill");
         assert_eq!(device.frame_counter(), frames);
     }
-    // Two at once.
+    // A rectangle makes two marks.
     let (record, panel, store) = device.into_parts();
     let mut numbers = record.into_numbers();
     numbers[4..6].fill(u32::MAX);
     let mut device = Device::from_parts(Record::from_numbers(numbers), panel, store);
     device.rectangle(SCREEN_DC, AREA).expect("a rectangle");
     assert_eq!(device.frame_counter(), 1);
-    // The low half alone.
+    // The low half of the counter goes round and adds 1 to the high half.
     let (record, panel, store) = device.into_parts();
     let mut numbers = record.into_numbers();
     numbers[4..6].copy_from_slice(&[u32::MAX, 6]);
     let mut device = Device::from_parts(Record::from_numbers(numbers), panel, store);
     device.panel_fill(Rgb565(1)).expect("a fill");
     assert_eq!(device.frame_counter(), 7 << 32);
-    // Handles pass 0.
+    // Handles skip 0.
     for (handle, next) in [(u32::MAX - 1, u32::MAX), (u32::MAX, 0), (1, 2)] {
         assert_eq!(device.create_font(0), Ok(Handle(handle)));
         assert_eq!(device.record().next_handle(), Handle(next));
@@ -448,12 +466,22 @@ fn raster_codes_are_the_original_s() {
 
 #[test]
 fn refusals_tell_their_meaning() {
-    let told = Refusal::TEXT_TOO_LONG.to_string();
-    assert_eq!(told, "refused with 10: a text has over 65,535 units");
-    assert_eq!(Refusal(255).to_string(), "refused with 255: no such call");
-    let all: std::collections::BTreeSet<String> =
-        (1..=11).chain([255]).map(|number| Refusal(number).to_string()).collect();
-    assert_eq!(all.len(), 12);
+    let told = |number| Refusal::new(number).map(|refusal| refusal.to_string());
+    assert_eq!(told(10).as_deref(), Some("refused with 10: a text has over 65,535 units"));
+    assert_eq!(told(255).as_deref(), Some("refused with 255: no such call"));
+    assert_eq!(told(20).as_deref(), Some("refused with 20: no refusal of this library"));
+    let meanings: std::collections::BTreeSet<_> =
+        (1..=10).chain([255]).map(|number| Refusal::new(number)?.meaning()).collect();
+    assert!(meanings.len() == 11 && !meanings.contains(&None), "{meanings:?}");
+}
+
+#[test]
+fn refusal_0_cannot_be_made() {
+    assert_eq!(Refusal::new(0), None);
+    let numbers = [1, 10, 255, u32::MAX];
+    assert_eq!(numbers.map(|number| Refusal::new(number).map(Refusal::number)), numbers.map(Some));
+    // So a result needs no more room than the number.
+    assert_eq!(size_of::<Result<(), Refusal>>(), size_of::<u32>());
 }
 
 #[test]

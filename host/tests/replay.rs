@@ -1,4 +1,4 @@
-//! The committed call script gives the committed lines, which are the original's.
+//! The committed call script prints the committed lines, which are the original's.
 
 mod script;
 
@@ -16,7 +16,7 @@ fn the_sample() {
     println!("{calls} calls");
 }
 
-/// Whether a line is not that of a call.
+/// Whether a line is not a call's.
 fn is_state(line: &str) -> bool {
     ["open ", "bad call", "panel ", "dc ", "object ", "crc "].iter().any(|p| line.starts_with(p))
 }

@@ -1,5 +1,5 @@
 //! What a device shows does not depend on what its memories held before it was
-//! opened, nor on pixels that were painted over.
+//! opened, nor on pixels that were drawn over.
 
 mod random;
 
@@ -20,7 +20,7 @@ struct Flat {
 }
 
 impl Flat {
-    /// Numbers and memories of these lengths that hold anything.
+    /// Random numbers, and memories of these lengths with random bytes.
     fn anything(random: &mut Random, panel_len: usize, store_len: usize) -> Flat {
         let numbers: Vec<u32> = (0..RECORD).map(|_| random.number()).collect();
         Flat {
@@ -38,7 +38,7 @@ impl Flat {
         self.record.perform(host, units, &mut self.panel, &mut self.store)
     }
 
-    /// Both snapshots, written over what the outputs hold.
+    /// Both snapshots, into outputs that held random bytes.
     fn snapshots(&self, random: &mut Random) -> Result<(Vec<u8>, Vec<u8>), Refusal> {
         let (width, height) = (self.record.width(), self.record.height());
         let mut rgba = bytes(random, rgba8888_len(width, height));
@@ -61,7 +61,7 @@ fn bytes(random: &mut Random, count: usize) -> Vec<u8> {
     (0..count).map(|_| random.below(256) as u8).collect()
 }
 
-/// A call: now and then a bitmap that is selected and drawn on, else any.
+/// A random call; two in five create or select a bitmap.
 fn next_call(random: &mut Random) -> (HostCall, Vec<u16>) {
     let base = Handle::GDI_HANDLE_BASE.0;
     let mut host = random.call();
@@ -98,11 +98,9 @@ fn whatever_the_memories_held() {
             let reply = one.perform(&host, &units);
             assert_eq!(reply, other.perform(&host, &units), "{host:?}");
             accepted += u32::from(reply.refusal == 0);
-            // Records are equal; numbers past the last object are what they were.
-            assert!(one.record.slots().eq(other.record.slots()), "{host:?}");
-            assert_eq!(one.record.screen(), other.record.screen());
-            assert_eq!(one.record.frame_counter(), other.record.frame_counter());
-            // A refused open leaves no device, and so no pixels.
+            // The records are equal; the numbers past the last object may differ.
+            assert_eq!(one.record, other.record, "{host:?}");
+            // After a refused open there is no device, and so no pixel.
             assert!(number.is_err() || one.bitmaps() == other.bitmaps(), "{host:?}");
             let picture = one.snapshots(&mut random);
             assert_eq!(picture, other.snapshots(&mut random), "{host:?}");
@@ -129,12 +127,12 @@ fn a_panel_painted_over() {
         let mut one = Flat::anything(&mut random, size, 64);
         one.open(width, height).expect("a device");
         let mut other = one.clone();
-        // Equal but for pixels of the panel.
+        // The two devices differ in the pixels of the panel and in nothing else.
         for byte in 0..size {
             one.panel[byte] = random.below(256) as u8;
             other.panel[byte] = random.below(256) as u8;
         }
-        // Calls that read the panel leave pixels of it that differ; a fill, and none is left.
+        // After blits within the panel some of its pixels still differ; after a fill none does.
         for _ in 0..4 {
             let host = HostCall {
                 dc: Handle::GDI_SCREEN_DC.0,

@@ -3,7 +3,7 @@
 use pocket_kernel::framebuffer::Framebuffer;
 use ravinefork::Device;
 
-/// Pixels without chance in them: every word comes up in 65,536 of them.
+/// Pixels from a fixed rule; 65,536 in a row hold every word once.
 fn pixels(count: usize, first: usize) -> Vec<u8> {
     (0..count).flat_map(|i| ((first + 40_503 * i) as u16).to_le_bytes()).collect()
 }

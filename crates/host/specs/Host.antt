@@ -30,6 +30,6 @@ pub record HostPerformed (c : HostCall) (us l : List ℕ) (ms : Memories) (r : R
   pub replied : Replied (hostPlan c us l ms .outcome .answer) r
   pub followed : Followed (hostPlan c us l ms) l ms (hostPlan c us l ms .outcome .answer) l′ ms′
 
--- a picture's length by its sides, 0 for sides that no panel has
+-- a picture's length by its sides, also where a side is 0; 0 if a side is above 4,096
 abbrev pub pictureLength : (width height : ℕ) → ℕ
 pictureLength w h = cond (leb w 4096 && leb h 4096) (ppmLength w h) 0

@@ -65,7 +65,7 @@ pub extern "C" fn ravinefork_snapshot_ppm(numbers: &[u32], panel: &[u8], out: &m
     snapshot::snapshot_ppm(numbers, panel, out)
 }
 
-// How long a P6 picture of these sides is, 0 if no panel has them.
+// The length of a P6 picture of these sides, also where a side is 0; 0 if a side is above 4,096.
 #[no_mangle]
 pub extern "C" fn ravinefork_ppm_len(width: u32, height: u32) -> usize
     ensures { λ r. ⌜ r ≡ pictureLength width height ⌝ }

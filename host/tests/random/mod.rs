@@ -2,7 +2,7 @@
 
 use ravinefork::{call, Handle, HostCall, MAX_SIDE};
 
-/// Random numbers, the same on every run.
+/// Random numbers. A seed gives the same ones on every run.
 pub struct Random(u64);
 
 impl Random {
@@ -19,7 +19,7 @@ impl Random {
         all[self.below(all.len() as u32) as usize]
     }
 
-    /// A handle, side, flag, colour or anything else.
+    /// A number that is often a handle, a side or a flag.
     pub fn number(&mut self) -> u32 {
         match self.below(6) {
             0 => self.below(12),

@@ -1,6 +1,6 @@
-//! Call scripts, as in docs/call-script.md, performed on the library in both of
-//! its forms: a device by its methods, and a record by calls as numbers, on
-//! memories of its own. They must agree, call by call.
+//! Performs call scripts (docs/call-script.md) in both forms of the library: by
+//! the methods of a device, and by calls as numbers on a record with its own
+//! memories. The two must agree after each call.
 
 use std::path::PathBuf;
 
@@ -9,15 +9,15 @@ use ravinefork::{
     Refusal, Reply, Rgb565,
 };
 
-/// A file of the repository.
+/// The path of a file of the repository.
 pub fn path(of: &str) -> PathBuf {
     PathBuf::from(concat!(env!("CARGO_MANIFEST_DIR"), "/..")).join(of)
 }
 
-/// The byte of a look, which is no call on the device.
+/// The byte of a look. It is not a call.
 const LOOK: u8 = 0x7F;
 
-/// What each call takes, by its byte.
+/// The arguments of each call, from call 1 on.
 const ARGUMENTS: [&[Field]; 18] = {
     use Field::*;
     [
@@ -63,7 +63,7 @@ fn number(script: &mut &[u8]) -> Option<u32> {
     Some(u32::from_be_bytes(*bytes))
 }
 
-/// Takes a call off the front of a script; none if it is a bad one.
+/// Reads a call from the front of a script; none if it is a bad call.
 fn read(script: &mut &[u8]) -> Option<(HostCall, Vec<u16>)> {
     let (&byte, rest) = script.split_first()?;
     *script = rest;
@@ -120,11 +120,11 @@ fn dc_line(dc: &Dc) -> String {
     format!("{surface} {bitmap} {brush} {pen} {font} {colors} {align} {bk} {transparent}")
 }
 
-/// A number and an answer, or the answer's zero.
+/// The refusal's number and the answer, or the answer's zero if it is refused.
 fn line<T>(answer: Result<T, Refusal>, zero: T, shown: impl Fn(T) -> String) -> String {
     match answer {
         Ok(value) => format!("0 {}", shown(value)),
-        Err(refusal) => format!("{} {}", refusal.0, shown(zero)),
+        Err(refusal) => format!("{} {}", refusal.number(), shown(zero)),
     }
 }
 
@@ -141,10 +141,11 @@ fn shown(object: Option<GdiObject>) -> String {
 }
 
 fn drawn(answer: Result<(), Refusal>) -> String {
-    answer.err().map_or(0, |refusal| refusal.0).to_string()
+    answer.err().map_or(0, Refusal::number).to_string()
 }
 
-/// The call by the device's method, and its line; none if there is no such call.
+/// Makes the call by the device's method and returns its line; none if there is no
+/// such call.
 fn by_method(device: &mut Device, host: &HostCall, units: &[u16]) -> Option<String> {
     let &HostCall { a, b, x, y, w, h, src_x, src_y, .. } = host;
     let [dc, src, object] = [host.dc, host.src, a].map(Handle);
@@ -180,7 +181,7 @@ fn by_method(device: &mut Device, host: &HostCall, units: &[u16]) -> Option<Stri
 /// The line of an answer as numbers; none if there is no such call.
 fn by_numbers(call: u32, reply: &Reply) -> Option<String> {
     let Reply { refusal, value, flag, .. } = reply;
-    if *refusal == Refusal::NO_CALL.0 {
+    if *refusal == Refusal::NO_CALL.number() {
         return None;
     }
     Some(match call {
@@ -192,13 +193,13 @@ fn by_numbers(call: u32, reply: &Reply) -> Option<String> {
     })
 }
 
-/// The lines of what a device has come to, in both forms.
+/// The state lines, which must be the same in both forms.
 fn looked_at(device: &Device, record: &Record, panel: &[u8], store: &[u8]) -> Vec<String> {
     assert!(panel == device.panel() && store == device.store(), "the memories differ");
     state(record, panel, store)
 }
 
-/// The lines of what a record and its memories have come to.
+/// The state lines of a record and its memories.
 fn state(record: &Record, panel: &[u8], store: &[u8]) -> Vec<String> {
     let (width, height) = (record.width(), record.height());
     let (frames, next) = (record.frame_counter(), record.next_handle());
@@ -213,7 +214,7 @@ fn state(record: &Record, panel: &[u8], store: &[u8]) -> Vec<String> {
     lines
 }
 
-/// What is printed for a script, and how many calls it made.
+/// What is printed for a script, and the number of its calls.
 pub fn printed(script: &[u8]) -> (String, usize) {
     let (lines, calls) = lines(script);
     (lines.iter().flat_map(|line| [line, "\n"]).collect(), calls)
@@ -259,7 +260,8 @@ fn lines(script: &[u8]) -> (Vec<String>, usize) {
             let line = by_method(&mut device, &host, &units);
             let reply = record.perform(&host, &units, &mut panel, &mut store);
             assert_eq!(by_numbers(host.call, &reply), line, "{host:x?}");
-            assert!(record == *device.record(), "the records differ after {host:x?}");
+            let numbers = device.record().as_numbers();
+            assert!(record.as_numbers() == numbers, "the numbers differ after {host:x?}");
             line.map(|line| format!("{:02x} {line}", host.call))
         });
         let Some(line) = line else {
@@ -273,7 +275,7 @@ fn lines(script: &[u8]) -> (Vec<String>, usize) {
     (lines, calls)
 }
 
-/// The CRC-32 of the bytes, the one of zlib and PNG.
+/// The CRC-32 of the bytes, as in zlib and PNG.
 pub fn crc32(bytes: &[u8]) -> u32 {
     let table: [u32; 256] = std::array::from_fn(|i| {
         (0..8).fold(i as u32, |c, _| if c & 1 == 1 { c >> 1 ^ 0xEDB8_8320 } else { c >> 1 })
