@@ -2,7 +2,8 @@
 use mathlib.Core.Bool.{Bool, true, false, cond}
 use mathlib.Core.List.{List, [], _∷_, _++_, append-assoc}
 use mathlib.Core.Path.{_≡_, refl, ap, _∙_}
-use Prim.Native.Nat.{ℕ, zero, suc, _+_, _/_, _%_, _≤_, _<_}
+use Prim.Native.Nat.{ℕ, zero, suc, _+_, _/_, _%_, _^_, _≤_, _<_}
+use native.Mathlib.Nat.{pow-suc}
 use native.Mathlib.Decide.{decLt}
 use native.Mathlib.Omega.{arith}
 use lib.Dec.{ltb}
@@ -57,17 +58,14 @@ digits-few (suc k) n = by (digits-few k (n / 10)) (ltb n 10)
 pub decimal-few : (n : ℕ) → length (decimal n) ≤ n + 1
 decimal-few n = digits-few n n
 
--- at most three below 1,000
-pub three-digits : (n : ℕ) → n < 1000 → length (decimal n) ≤ 3
-three-digits n h = by (decLt n 10)
+-- at most k below 10 to the power k
+pub few-digits : (k n : ℕ) → n < 10 ^ suc k → length (decimal n) ≤ suc k
+few-digits zero n h = omega (arith, length-one n h)
+few-digits (suc k) n h = by (few-digits k (n / 10) (omega (arith, pow-suc 10 (suc k)))) (decLt n 10)
   where
-    two : (k : ℕ) → k < 100 → Dec (k < 10) → length (decimal k) ≤ 2
-    two k g (yes a) = omega (arith, length-one k a)
-    two k g (no a) = omega (arith, length-more k (omega arith), length-one (k / 10) (omega arith))
-
-    by : Dec (n < 10) → length (decimal n) ≤ 3
-    by (yes a) = omega (arith, length-one n a)
-    by (no a) = omega (arith, length-more n (omega arith), two (n / 10) (omega arith) (decLt (n / 10) 10))
+    by : length (decimal (n / 10)) ≤ suc k → Dec (n < 10) → length (decimal n) ≤ suc (suc k)
+    by f (yes a) = omega (arith, length-one n a)
+    by f (no a) = omega (arith, length-more n (omega arith))
 
 -- a digit that is stored, alone or behind the others
 pub put-digit : (m : List ℕ) (at n : ℕ) → n < 10 → at + length (decimal n) ≤ length m → set m at (48 + n % 10) ≡ put m at (decimal n)
@@ -81,6 +79,10 @@ put-last m at n h fits e f = rw (decimal-more n h, e, f) (stored-behind (decimal
 pub length-header : (w h : ℕ) → length (header w h) ≡ 9 + length (decimal w) + length (decimal h)
 unfolding header
 length-header w h = simp length-append (omega arith)
+
+-- of sides of 32 bits it has 29 bytes at most
+pub header-few : (w h : ℕ) → w < 10 ^ 10 → h < 10 ^ 10 → length (header w h) ≤ 29
+header-few w h a b = omega (arith, length-header w h, few-digits 9 w a, few-digits 9 h b)
 
 -- its five pieces, one behind the other
 pub put-pieces : (m : List ℕ) (w h : ℕ) {l₁ l₂ l₃ l₄ l₅ : List ℕ} (a₁ a₂ a₃ a₄ : ℕ) → length (header w h) ≤ length m

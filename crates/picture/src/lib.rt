@@ -1,4 +1,4 @@
-// A surface as a P6 picture on standard output, for programs.
+// A surface as a P6 picture on standard output, for programs. `p6` and `samples` make every byte of it.
 use libc::STDOUT_FILENO;
 ghost use Prim.Native.Nat.{_+_, _*_, _≤_};
 ghost use lib.ListN.{length};
@@ -15,16 +15,14 @@ pub fn write(pixels: &[u8], width: u32, height: u32)
     write_rows(pixels, width as usize, height as usize);
 }
 
-// The format, the sides and the largest value.
+// Writes the header, which has 29 bytes at most.
 fn write_header(width: u32, height: u32) {
-    io::write_all(STDOUT_FILENO, b"P6\n");
-    io::print_decimal(STDOUT_FILENO, width as u64);
-    io::write_all(STDOUT_FILENO, b" ");
-    io::print_decimal(STDOUT_FILENO, height as u64);
-    io::write_all(STDOUT_FILENO, b"\n255\n");
+    let mut bytes = [0u8; 32];
+    let n = p6::put_header(&mut bytes, width, height);
+    io::write_all(STDOUT_FILENO, &bytes[0..n]);
 }
 
-// Row after row of the pixels.
+// Writes row after row of the pixels.
 fn write_rows(pixels: &[u8], w: usize, h: usize)
     requires { ⌜ w ≤ 4096 ⌝ }
     requires { ⌜ 2 * (w * h) ≤ length (now pixels) ⌝ }
@@ -34,14 +32,14 @@ fn write_rows(pixels: &[u8], w: usize, h: usize)
     }
 }
 
-// R, G and B of the w words from `first` on.
+// Writes the samples of the w words from `first` on.
 fn write_row(pixels: &[u8], first: usize, w: usize)
     requires { ⌜ (w ≤ 4096) × (2 * (first + w) ≤ length (now pixels)) ⌝ }
 {
     let mut bytes = [0u8; 12_288];
-    for k in 0..w {
-        samples::put_rgb(&mut bytes, 3 * k, words::word_at(pixels, first + k));
-    }
-    let end = 3 * w;
-    io::write_all(STDOUT_FILENO, &bytes[0..end]);
+    let start = 2 * first;
+    let end = 2 * (first + w);
+    samples::put_rgb_run(&pixels[start..end], w, &mut bytes, 0);
+    let n = 3 * w;
+    io::write_all(STDOUT_FILENO, &bytes[0..n]);
 }

@@ -15,7 +15,7 @@ use Rattle.p6.specs.P6.{ppmLength}
 use Rattle.p6.specs.Inner.{put}
 use Rattle.samples.specs.Samples.{ppmOf}
 use Rattle.samples.proofs.Pixels.{length-ppm}
-use Rattle.p6.proofs.Decimal.{length-header, three-digits}
+use Rattle.p6.proofs.Decimal.{length-header, few-digits}
 use Rattle.pixmap.specs.Pixmap.{served, isPicture, noPicture, pictureOf}
 
 -- An input that is a picture.
@@ -64,7 +64,7 @@ module _ (s : List ℕ) where
 
 -- every picture has room
 pub room : (w h : ℕ) → w ≤ 144 → h ≤ 144 → ppmLength w h ≤ 62223
-room w h a b = omega (arith, length-header w h, three-digits w (omega arith), three-digits h (omega arith), mul-le-mul a b)
+room w h a b = omega (arith, length-header w h, few-digits 2 w (omega arith), few-digits 2 h (omega arith), mul-le-mul a b)
 
 pub served-most : (n : ℕ) → served n ≡ true → n ≤ 144
 served-most n e = leb-true n 144 (both (leb 1 n) (leb n 144) e .1)

@@ -45,7 +45,7 @@ fn put_rgba_run(pixels: &[u8], n: usize, out: &mut [u8])
 }
 
 // R, G and B of the first n words, from `at` on.
-fn put_rgb_run(pixels: &[u8], n: usize, out: &mut [u8], at: usize)
+pub fn put_rgb_run(pixels: &[u8], n: usize, out: &mut [u8], at: usize)
     requires { ⌜ (2 * n ≤ length (now pixels)) × (at + 3 * n ≤ length (now out)) ⌝ }
     ensures { λ _. ⌜ now (out .exit) ≡ put (now (out .entry)) at (samplesOf (now (pixels .entry)) n) ⌝ }
 {
