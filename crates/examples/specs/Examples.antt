@@ -1,14 +1,17 @@
--- The examples marked P, and the program's: each is what the definitions compute.
-use mathlib.Core.Bool.{true, false}
-use mathlib.Core.List.{[], _∷_}
-use mathlib.Core.Path.{_≡_, refl}
-use Prim.Native.Nat.{ℕ}
+-- The examples tainted P, one about colour marks, and the program's: each is what the definitions compute.
+use mathlib.Core.Bool.{true, false, _&&_}
+use mathlib.Core.List.{List, [], _∷_}
+use mathlib.Core.Path.{_≡_, refl, sym}
+use Prim.Native.Nat.{ℕ, _+_, _*_, _/_, _%_, _<_}
+use native.Mathlib.Omega.{arith}
+use lib.Dec.{eqb}
 use lib.IntN.{pos, negsuc}
 use lib.ListN.{replicate}
 use Rattle.arithmetic.specs.Sum.{sumBelow}
 use Rattle.words.specs.Words.{written, word, painted}
 use Rattle.color.specs.Color.{packed, wideRed, wideGreen, wideBlue, from555}
 use Rattle.rop3.specs.Rop3.{tableOf, applied, usesSrc}
+use Rattle.rop3.proofs.Codes.{applied-copy}
 use Rattle.clip.specs.Clip.{clippedAxis}
 use Rattle.clip_blit.specs.Blit.{blitAxis, blitRect}
 use Rattle.font.specs.Font.{glyphs, inkAt}
@@ -19,20 +22,30 @@ use Rattle.blit.specs.Blit.{blitOf, blitFrom}
 use Rattle.text.specs.Ink.{charInk}
 use Rattle.gdi.specs.declared.GdiState.{GdiState}
 use Rattle.gdi.specs.declared.GdiObject.{GdiObject}
-use Rattle.gdi.specs.declared.GdiObject.the-variants.{Bitmap}
+use Rattle.gdi.specs.declared.GdiObject.the-variants.{Bitmap as BitmapOf}
 use Rattle.gdi.specs.Record.{freshBitmap, fresh}
 use Rattle.gdi.specs.Updates.{withObjects}
 use Rattle.gdi.specs.Stock.{isStock}
 use Rattle.gdi.specs.Lookup.{objectAt, dcOf}
-use Rattle.place.specs.Place.{targetOf}
+use Rattle.sound.specs.Sound.{isSound}
+use Rattle.ready.specs.Ready.{commonRefusal}
+use Rattle.place.specs.declared.SurfaceId.the-variants.{Panel, Bitmap}
+use Rattle.place.specs.Place.{same, targetOf}
+use Rattle.place.proofs.Apart.{clash}
 use Rattle.handles.specs.Handles.{free, firstFree, newHandle, added}
 use Rattle.paint.specs.Memories.{memories}
 use Rattle.paint.specs.Paint.{paintedBy, after}
+use Rattle.paint.specs.Taint.{Taint, byD, byS, taintedBy, tainted}
+use Rattle.plan.specs.declared.Call.{Call}
+use Rattle.plan.specs.declared.Call.the-variants.{Blit}
 use Rattle.plan.specs.Answer.{answered}
 use Rattle.plan.specs.Plan.{refuse}
 use Rattle.plan.specs.Stroke.{paintsOf}
 use Rattle.plan.specs.Create.{createOf, createBitmap}
 use Rattle.plan.specs.Drawing.{blit}
+use Rattle.plan.specs.Calls.{act, plan}
+use Rattle.noninterference.specs.Claim.{taintAfter}
+use Rattle.noninterference.specs.Taint.{taintBy}
 use Rattle.p6.specs.P6.{header, digits}
 use Rattle.p6.specs.Joined.{joined}
 use Rattle.pixmap.specs.Pixmap.{isPicture, pictureOf}
@@ -113,15 +126,51 @@ pub letter-at-the-edge
 unfolding painted written inkAt glyphs
 letter-at-the-edge = refl
 
--- row a b c, blit 2 wide from 0 to 1: a a b
+-- row a b c, blit 2 wide from 0 to 1: a a b, for any three words
 abbrev row : GdiState
 row = fresh 6 2 3 1
 
-pub row-moved-onto-itself : after row (blit row 0xDEAD_0DC0 (record { x = pos 1; y = pos 0; w = pos 2; h = pos 1 }) 0xDEAD_0DC0 (record { x = pos 0; y = pos 0 }) 0x00CC_0020 .paint)
-    (memories (0xA1 ∷ 0xA0 ∷ 0xB1 ∷ 0xB0 ∷ 0xC1 ∷ 0xC0 ∷ []) (0 ∷ 0 ∷ []))
-    ≡ memories (0xA1 ∷ 0xA0 ∷ 0xA1 ∷ 0xA0 ∷ 0xB1 ∷ 0xB0 ∷ []) (0 ∷ 0 ∷ [])
-unfolding blit targetOf dcOf paintsOf after paintedBy painted written word applied packed
-row-moved-onto-itself = refl
+abbrev rowOf : (a b c : ℕ) → List ℕ
+rowOf a b c = a % 256 ∷ a / 256 ∷ b % 256 ∷ b / 256 ∷ c % 256 ∷ c / 256 ∷ []
+
+abbrev moving : Call
+moving = Blit 0xDEAD_0DC0 (record { x = pos 1; y = pos 0; w = pos 2; h = pos 1 }) 0xDEAD_0DC0 (record { x = pos 0; y = pos 0 }) 0x00CC_0020
+
+pub row-moved-onto-itself : (a b c : ℕ) (store : List ℕ) → a < 65536 → b < 65536
+    → after row (plan moving [] row 6 2 .paint) (memories (rowOf a b c) store) ≡ memories (rowOf a a b) store
+unfolding plan commonRefusal isSound sumBelow act blit targetOf dcOf paintsOf after paintedBy painted written word
+row-moved-onto-itself a b c store h g =
+    let this : a % 256 + 256 * (a / 256) ≡ a = omega arith in
+    let next : b % 256 + 256 * (b / 256) ≡ b = omega arith in
+    let copied : (p s d : ℕ) → s < 65536 → applied 0xCC p s d ≡ s = λ p s d i. sym (applied-copy p s d i) in
+    simp (this, next, copied)
+
+-- of this row pixel 1 alone is tainted
+abbrev second : Taint
+second u x y = (same u Panel && (eqb x 1 && eqb y 0)) ≡ true
+
+abbrev afterwards : Taint
+afterwards = taintBy row 6 2 [] second moving
+
+-- after the blit pixel 2, which read it, is tainted
+pub reader-marked : afterwards Panel 2 0
+unfolding taintAfter plan commonRefusal isSound sumBelow act blit targetOf dcOf paintsOf tainted taintedBy
+reader-marked = byS refl refl
+
+-- pixel 1, which read pixel 0, is not
+pub overwritten-unmarked : afterwards Panel 1 0 → ⊥
+unfolding taintAfter plan commonRefusal isSound sumBelow act blit targetOf dcOf paintsOf tainted taintedBy
+overwritten-unmarked (byD e m) = clash e
+overwritten-unmarked (byS e m) = clash m
+
+-- nor is pixel 0, nor a pixel of a bitmap
+pub first-unmarked : afterwards Panel 0 0 → ⊥
+unfolding taintAfter plan commonRefusal isSound sumBelow act blit targetOf dcOf paintsOf tainted taintedBy
+first-unmarked e = clash e
+
+pub bitmaps-unmarked : (h x y : ℕ) → afterwards (Bitmap h) x y → ⊥
+unfolding taintAfter plan commonRefusal isSound sumBelow act blit targetOf dcOf paintsOf tainted taintedBy
+bitmaps-unmarked h x y e = clash e
 
 -- a fresh device: a panel of 1 by 1, a store of 12 bytes
 abbrev device : GdiState
@@ -141,7 +190,7 @@ pub bitmap-fits : createBitmap device 0 5 .outcome .answer ≡ answered 0xDEAD_1
 unfolding createBitmap createOf sumBelow firstFree free isStock
 bitmap-fits = refl
 
-pub bitmap-widened : objectAt (createBitmap device 0 5 .outcome .state) 0 ≡ Bitmap (freshBitmap 1 5)
+pub bitmap-widened : objectAt (createBitmap device 0 5 .outcome .state) 0 ≡ BitmapOf (freshBitmap 1 5)
 unfolding createBitmap createOf sumBelow added firstFree free isStock
 bitmap-widened = refl
 
@@ -159,7 +208,7 @@ pub bitmap-too-high : createBitmap device 1 4097 ≡ refuse 6 device
 unfolding createBitmap
 bitmap-too-high = refl
 
--- the example of the program `ppm`, not marked P: 00 02 00 01 00 F8 1F 00 gives the lines `P6`, `2 1`, `255`, then FF 00 00 00 00 FF
+-- the example of the program `ppm`, not tainted P: 00 02 00 01 00 F8 1F 00 gives the lines `P6`, `2 1`, `255`, then FF 00 00 00 00 FF
 pub picture-written :
     pictureOf (0x00 ∷ 0x02 ∷ 0x00 ∷ 0x01 ∷ 0x00 ∷ 0xF8 ∷ 0x1F ∷ 0x00 ∷ [])
     ≡ 80 ∷ 54 ∷ 10 ∷ 50 ∷ 32 ∷ 49 ∷ 10 ∷ 50 ∷ 53 ∷ 53 ∷ 10 ∷ 0xFF ∷ 0x00 ∷ 0x00 ∷ 0x00 ∷ 0x00 ∷ 0xFF ∷ []
