@@ -2,10 +2,9 @@
 ghost use lib.ListN.{length};
 ghost use Rattle.numbers.specs.View.{view};
 ghost use Rattle.ready.proofs.Ready.{Lent};
-ghost use Rattle.paint.specs.Memories.{memories};
 ghost use Rattle.plan.specs.Drawing.{blit};
 ghost use Rattle.plan.specs.Answer.{partsOf};
-ghost use Rattle.plan.specs.Followed.{Followed};
+ghost use Rattle.plan.specs.Followed.{Followed, OnBoth};
 use draw::NO_DC;
 use draw::NO_SURFACE;
 use place::Target;
@@ -31,7 +30,7 @@ pub fn blit(
     rop: u32,
 ) -> Answer
     requires { ⌜ Lent (now numbers) (length (now panel)) (length (now store)) ⌝ }
-    ensures { λ r. ⌜ Followed (blit (view (now (numbers .entry))) dc area src from rop) (now (numbers .entry)) (memories (now (panel .entry)) (now (store .entry))) (partsOf r) (now (numbers .exit)) (memories (now (panel .exit)) (now (store .exit))) ⌝ }
+    ensures { λ r. ⌜ OnBoth (λ n. Followed (blit (view n) dc area src from rop) n) numbers panel store (partsOf r) ⌝ }
 {
     if !rop3::uses_src(rop) {
         return draw::pattern_fill(numbers, panel, store, dc, area, rop);

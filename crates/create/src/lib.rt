@@ -8,11 +8,8 @@ ghost use Rattle.numbers.specs.View.{view};
 ghost use Rattle.sound.specs.Sound.{objectFits};
 ghost use Rattle.plan.specs.Create.{sideOf, createOf, createBitmap};
 ghost use Rattle.ready.proofs.Ready.{Lent};
-ghost use Rattle.paint.specs.Memories.{memories};
-ghost use mathlib.Core.List.{List};
-ghost use Prim.Native.Nat.{ℕ};
 ghost use Rattle.plan.specs.Answer.{partsOf};
-ghost use Rattle.plan.specs.Followed.{Followed};
+ghost use Rattle.plan.specs.Followed.{Followed, OnStore};
 use color::Colorref;
 use gdi::Brush;
 use gdi::Font;
@@ -35,7 +32,7 @@ pub const STORE_FULL: u32 = 7;
 fn make(numbers: &mut [u32], store: &mut [u8], object: GdiObject) -> Answer
     requires { ⌜ Lent (now numbers) (view (now numbers) .«panel_len») (length (now store)) ⌝ }
     requires { ⌜ objectFits object ≡ true ⌝ }
-    ensures { λ r. ⌜ ((panel : List ℕ) → Followed (createOf (view (now (numbers .entry))) object) (now (numbers .entry)) (memories panel (now (store .entry))) (partsOf r) (now (numbers .exit)) (memories panel (now (store .exit)))) ⌝ }
+    ensures { λ r. ⌜ OnStore (λ n. Followed (createOf (view n) object) n) numbers store (partsOf r) ⌝ }
 {
     let count = numbers[COUNT] as usize;
     if count >= MAX_OBJECTS {
@@ -66,7 +63,7 @@ pub fn create_compatible_bitmap(
     height: u32,
 ) -> Answer
     requires { ⌜ Lent (now numbers) (view (now numbers) .«panel_len») (length (now store)) ⌝ }
-    ensures { λ r. ⌜ ((panel : List ℕ) → Followed (createBitmap (view (now (numbers .entry))) width height) (now (numbers .entry)) (memories panel (now (store .entry))) (partsOf r) (now (numbers .exit)) (memories panel (now (store .exit)))) ⌝ }
+    ensures { λ r. ⌜ OnStore (λ n. Followed (createBitmap (view n) width height) n) numbers store (partsOf r) ⌝ }
 {
     if width > MAX_SIDE {
         return Answer::Refused(BAD_SIDE);
@@ -83,7 +80,7 @@ pub fn create_compatible_bitmap(
 
 pub fn create_memory_dc(numbers: &mut [u32], store: &mut [u8]) -> Answer
     requires { ⌜ Lent (now numbers) (view (now numbers) .«panel_len») (length (now store)) ⌝ }
-    ensures { λ r. ⌜ ((panel : List ℕ) → Followed (createOf (view (now (numbers .entry))) (DcOf defaultDc)) (now (numbers .entry)) (memories panel (now (store .entry))) (partsOf r) (now (numbers .exit)) (memories panel (now (store .exit)))) ⌝ }
+    ensures { λ r. ⌜ OnStore (λ n. Followed (createOf (view n) (DcOf defaultDc)) n) numbers store (partsOf r) ⌝ }
 {
     let d = gdi::default_dc();
     let o = GdiObject::Dc(d);
@@ -92,7 +89,7 @@ pub fn create_memory_dc(numbers: &mut [u32], store: &mut [u8]) -> Answer
 
 pub fn create_solid_brush(numbers: &mut [u32], store: &mut [u8], color: Colorref) -> Answer
     requires { ⌜ Lent (now numbers) (view (now numbers) .«panel_len») (length (now store)) ⌝ }
-    ensures { λ r. ⌜ ((panel : List ℕ) → Followed (createOf (view (now (numbers .entry))) (BrushOf (record { color = color }))) (now (numbers .entry)) (memories panel (now (store .entry))) (partsOf r) (now (numbers .exit)) (memories panel (now (store .exit)))) ⌝ }
+    ensures { λ r. ⌜ OnStore (λ n. Followed (createOf (view n) (BrushOf (record { color = color }))) n) numbers store (partsOf r) ⌝ }
 {
     let o = GdiObject::Brush(Brush { color: color });
     make(numbers, store, o)
@@ -100,7 +97,7 @@ pub fn create_solid_brush(numbers: &mut [u32], store: &mut [u8], color: Colorref
 
 pub fn create_pen(numbers: &mut [u32], store: &mut [u8], color: Colorref, width: u32) -> Answer
     requires { ⌜ Lent (now numbers) (view (now numbers) .«panel_len») (length (now store)) ⌝ }
-    ensures { λ r. ⌜ ((panel : List ℕ) → Followed (createOf (view (now (numbers .entry))) (PenOf (record { color = color; width = width }))) (now (numbers .entry)) (memories panel (now (store .entry))) (partsOf r) (now (numbers .exit)) (memories panel (now (store .exit)))) ⌝ }
+    ensures { λ r. ⌜ OnStore (λ n. Followed (createOf (view n) (PenOf (record { color = color; width = width }))) n) numbers store (partsOf r) ⌝ }
 {
     let o = GdiObject::Pen(Pen {
         color: color,
@@ -111,7 +108,7 @@ pub fn create_pen(numbers: &mut [u32], store: &mut [u8], color: Colorref, width:
 
 pub fn create_font(numbers: &mut [u32], store: &mut [u8], height: i32) -> Answer
     requires { ⌜ Lent (now numbers) (view (now numbers) .«panel_len») (length (now store)) ⌝ }
-    ensures { λ r. ⌜ ((panel : List ℕ) → Followed (createOf (view (now (numbers .entry))) (FontOf (record { height = height }))) (now (numbers .entry)) (memories panel (now (store .entry))) (partsOf r) (now (numbers .exit)) (memories panel (now (store .exit)))) ⌝ }
+    ensures { λ r. ⌜ OnStore (λ n. Followed (createOf (view n) (FontOf (record { height = height }))) n) numbers store (partsOf r) ⌝ }
 {
     let o = GdiObject::Font(Font { height: height });
     make(numbers, store, o)

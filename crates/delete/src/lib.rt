@@ -4,11 +4,8 @@ ghost use lib.ListN.{length};
 ghost use Rattle.numbers.specs.View.{view};
 ghost use Rattle.plan.specs.Delete.{delete, remove};
 ghost use Rattle.ready.proofs.Ready.{Lent};
-ghost use Rattle.paint.specs.Memories.{memories};
-ghost use mathlib.Core.List.{List};
-ghost use Prim.Native.Nat.{ℕ};
 ghost use Rattle.plan.specs.Answer.{partsOf};
-ghost use Rattle.plan.specs.Followed.{Followed};
+ghost use Rattle.plan.specs.Followed.{Followed, OnStore};
 use gdi::Found;
 use numbers::KIND;
 use numbers::OBJECT;
@@ -19,7 +16,7 @@ use plan::Answer;
 // A created object goes. Stock objects stay, and count as deleted.
 pub fn delete(numbers: &mut [u32], store: &mut [u8], handle: u32) -> Answer
     requires { ⌜ Lent (now numbers) (view (now numbers) .«panel_len») (length (now store)) ⌝ }
-    ensures { λ r. ⌜ ((panel : List ℕ) → Followed (delete (view (now (numbers .entry))) handle) (now (numbers .entry)) (memories panel (now (store .entry))) (partsOf r) (now (numbers .exit)) (memories panel (now (store .exit)))) ⌝ }
+    ensures { λ r. ⌜ OnStore (λ n. Followed (delete (view n) handle) n) numbers store (partsOf r) ⌝ }
 {
     if gdi::is_stock_handle(handle) {
         return Answer::Deleted(true);
@@ -36,7 +33,7 @@ pub fn delete(numbers: &mut [u32], store: &mut [u8], handle: u32) -> Answer
 // A created object goes, and its record is the answer.
 pub fn remove(numbers: &mut [u32], store: &mut [u8], handle: u32) -> Answer
     requires { ⌜ Lent (now numbers) (view (now numbers) .«panel_len») (length (now store)) ⌝ }
-    ensures { λ r. ⌜ ((panel : List ℕ) → Followed (remove (view (now (numbers .entry))) handle) (now (numbers .entry)) (memories panel (now (store .entry))) (partsOf r) (now (numbers .exit)) (memories panel (now (store .exit)))) ⌝ }
+    ensures { λ r. ⌜ OnStore (λ n. Followed (remove (view n) handle) n) numbers store (partsOf r) ⌝ }
 {
     if gdi::is_stock_handle(handle) {
         return Answer::NotRemoved;

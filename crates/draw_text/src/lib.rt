@@ -2,10 +2,9 @@
 ghost use lib.ListN.{length};
 ghost use Rattle.numbers.specs.View.{view};
 ghost use Rattle.ready.proofs.Ready.{Lent};
-ghost use Rattle.paint.specs.Memories.{memories};
 ghost use Rattle.plan.specs.Drawing.{text};
 ghost use Rattle.plan.specs.Answer.{partsOf};
-ghost use Rattle.plan.specs.Followed.{Followed};
+ghost use Rattle.plan.specs.Followed.{Followed, OnBoth};
 use canvas::Drawing;
 use draw::NO_DC;
 use draw::NO_SURFACE;
@@ -23,7 +22,7 @@ pub fn text_out(
     at: Point,
 ) -> Answer
     requires { ⌜ Lent (now numbers) (length (now panel)) (length (now store)) ⌝ }
-    ensures { λ r. ⌜ Followed (text (view (now (numbers .entry))) (now (units .entry)) dc at) (now (numbers .entry)) (memories (now (panel .entry)) (now (store .entry))) (partsOf r) (now (numbers .exit)) (memories (now (panel .exit)) (now (store .exit))) ⌝ }
+    ensures { λ r. ⌜ OnBoth (λ n. Followed (text (view n) (now (units .entry)) dc at) n) numbers panel store (partsOf r) ⌝ }
 {
     match place::target_of(numbers, dc) {
         Target::NoDc => Answer::Refused(NO_DC),

@@ -2,8 +2,8 @@
 // units as a slice, two lent memories. A slice is a pointer and a length there. None of these functions asks anything of its
 // caller.
 ghost use mathlib.Core.Path.{_≡_};
-ghost use Rattle.paint.specs.Memories.{memories};
 ghost use Rattle.plan.specs.Open.{Opened};
+ghost use Rattle.plan.specs.Followed.{OnBoth};
 ghost use Rattle.snapshot.specs.Snapshot.{rgba8888, ppm, Snapped};
 ghost use Rattle.host.specs.Host.{HostPerformed, pictureLength};
 use host_call::HostCall;
@@ -24,7 +24,7 @@ pub extern "C" fn ravinefork_open(
     width: u32,
     height: u32,
 ) -> u32
-    ensures { λ r. ⌜ Opened width height (now (numbers .entry)) (memories (now (panel .entry)) (now (store .entry))) r (now (numbers .exit)) (memories (now (panel .exit)) (now (store .exit))) ⌝ }
+    ensures { λ r. ⌜ OnBoth (Opened width height) numbers panel store r ⌝ }
 {
     open::open(numbers, panel, store, width, height)
 }
@@ -38,7 +38,7 @@ pub extern "C" fn ravinefork_perform(
     panel: &mut [u8],
     store: &mut [u8],
 ) -> Reply
-    ensures { λ r. ⌜ HostPerformed call (now (units .entry)) (now (numbers .entry)) (memories (now (panel .entry)) (now (store .entry))) r (now (numbers .exit)) (memories (now (panel .exit)) (now (store .exit))) ⌝ }
+    ensures { λ r. ⌜ OnBoth (HostPerformed call (now (units .entry))) numbers panel store r ⌝ }
 {
     match host_call::call_of(call) {
         ParsedCall::NoCall => host_reply::reply_of(Answer::Refused(NO_CALL)),

@@ -5,8 +5,8 @@ ghost use lib.ListN.{length};
 ghost use Rattle.gdi.specs.Record.{fresh};
 ghost use Rattle.numbers.specs.Layout.{headSize, recordSize};
 ghost use Rattle.numbers.specs.View.{Updated};
-ghost use Rattle.paint.specs.Memories.{memories};
 ghost use Rattle.plan.specs.Open.{openRefusal, Opened};
+ghost use Rattle.plan.specs.Followed.{OnBoth};
 use gdi::GDI_HANDLE_BASE;
 use numbers::COUNT;
 use numbers::FRAMES_HIGH;
@@ -56,7 +56,7 @@ fn refusal(width: u32, height: u32, panel_len: usize, store_len: usize) -> u32
 // Opens a device with a panel of these sides. Accepted, the panel and the stock pixel are black, and no other byte changes. The
 // number with which it is refused, 0 if it is not; numbers that no record fits are refused with 9.
 pub fn open(numbers: &mut [u32], panel: &mut [u8], store: &mut [u8], width: u32, height: u32) -> u32
-    ensures { λ r. ⌜ Opened width height (now (numbers .entry)) (memories (now (panel .entry)) (now (store .entry))) r (now (numbers .exit)) (memories (now (panel .exit)) (now (store .exit))) ⌝ }
+    ensures { λ r. ⌜ OnBoth (Opened width height) numbers panel store r ⌝ }
 {
     if numbers.len() != RECORD {
         return UNSOUND_RECORD;

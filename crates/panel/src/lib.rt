@@ -7,11 +7,8 @@ ghost use Rattle.plan.specs.Panel.{panelFill, resize};
 ghost use Rattle.gdi.specs.Updates.{withSides};
 ghost use Rattle.numbers.specs.View.{view, isRecord, Updated};
 ghost use Rattle.ready.proofs.Ready.{Lent};
-ghost use Rattle.paint.specs.Memories.{memories};
-ghost use mathlib.Core.List.{List};
-ghost use Prim.Native.Nat.{ℕ};
 ghost use Rattle.plan.specs.Answer.{partsOf};
-ghost use Rattle.plan.specs.Followed.{Followed};
+ghost use Rattle.plan.specs.Followed.{Followed, OnPanel};
 use color::Rgb565;
 use gdi::Found;
 use numbers::HEIGHT;
@@ -28,7 +25,7 @@ pub const PANEL_TOO_SHORT: u32 = 7;
 // The whole panel in one colour.
 pub fn fill(numbers: &mut [u32], panel: &mut [u8], color: Rgb565) -> Answer
     requires { ⌜ Lent (now numbers) (length (now panel)) (view (now numbers) .«store_len») ⌝ }
-    ensures { λ r. ⌜ ((store : List ℕ) → Followed (panelFill (view (now (numbers .entry))) (color .0)) (now (numbers .entry)) (memories (now (panel .entry)) store) (partsOf r) (now (numbers .exit)) (memories (now (panel .exit)) store)) ⌝ }
+    ensures { λ r. ⌜ OnPanel (λ n. Followed (panelFill (view n) (color .0)) n) numbers panel (partsOf r) ⌝ }
 {
     let n = (numbers[WIDTH] * numbers[HEIGHT]) as usize;
     runs::fill_run(panel, 0, n, color.0);
@@ -39,7 +36,7 @@ pub fn fill(numbers: &mut [u32], panel: &mut [u8], color: Rgb565) -> Answer
 // The panel at another size, black. A side of 0 or the present size does nothing.
 pub fn resize(numbers: &mut [u32], panel: &mut [u8], width: u32, height: u32) -> Answer
     requires { ⌜ Lent (now numbers) (length (now panel)) (view (now numbers) .«store_len») ⌝ }
-    ensures { λ r. ⌜ ((store : List ℕ) → Followed (resize (view (now (numbers .entry))) width height) (now (numbers .entry)) (memories (now (panel .entry)) store) (partsOf r) (now (numbers .exit)) (memories (now (panel .exit)) store)) ⌝ }
+    ensures { λ r. ⌜ OnPanel (λ n. Followed (resize (view n) width height) n) numbers panel (partsOf r) ⌝ }
 {
     if no_effect(width, height, numbers[WIDTH], numbers[HEIGHT]) {
         return Answer::Drawn;

@@ -1,7 +1,6 @@
 // One entry for every call, on a record lent as numbers.
-ghost use Rattle.paint.specs.Memories.{memories};
 ghost use Rattle.plan.specs.Answer.{partsOf};
-ghost use Rattle.plan.specs.Followed.{Performed};
+ghost use Rattle.plan.specs.Followed.{Performed, OnBoth};
 use plan::Answer;
 use plan::Call;
 
@@ -13,7 +12,7 @@ pub fn perform(
     panel: &mut [u8],
     store: &mut [u8],
 ) -> Answer
-    ensures { λ r. ⌜ Performed call (now (units .entry)) (now (numbers .entry)) (memories (now (panel .entry)) (now (store .entry))) (partsOf r) (now (numbers .exit)) (memories (now (panel .exit)) (now (store .exit))) ⌝ }
+    ensures { λ r. ⌜ OnBoth (Performed call (now (units .entry))) numbers panel store (partsOf r) ⌝ }
 {
     let no = ready::common_refusal(numbers, panel.len(), store.len());
     if no != 0 {

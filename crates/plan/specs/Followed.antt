@@ -3,8 +3,10 @@ use mathlib.Core.List.{List}
 use mathlib.Core.Path.{_≡_}
 use Prim.Native.Nat.{ℕ}
 use lib.ListN.{length}
+use denote.Ref.{RefT, now}
+use denote.Triple.Both.{Both}
 use Rattle.numbers.specs.View.{view, Updated}
-use Rattle.paint.specs.Memories.{Memories}
+use Rattle.paint.specs.Memories.{Memories, memories}
 use Rattle.paint.specs.Paint.{after}
 use Rattle.plan.specs.declared.Call.{Call}
 use Rattle.plan.specs.Answer.{Parts}
@@ -22,3 +24,21 @@ pub record Followed (p : Plan) (l : List ℕ) (ms : Memories) (a : Parts) (l′ 
 -- A call was performed: its plan was followed.
 abbrev pub Performed : Call → (units l : List ℕ) → Memories → Parts → (l′ : List ℕ) → Memories → Type 0
 Performed c us l ms a l′ ms′ = Followed (planOn c us l (length (ms .panel)) (length (ms .store))) l ms a l′ ms′
+
+-- A slice lent to a function, as it is at entry and at exit.
+abbrev pub Slice : Type 0
+Slice = Both (RefT (List ℕ)) (RefT (List ℕ))
+
+-- What holds of a record's numbers, the memories and an answer, of what a function was lent: numbers with both memories; with the
+-- store, or the panel memory, and any other memory, which is kept; numbers alone, and any memories, which are kept.
+abbrev pub OnBoth : {A : Type 0} → (List ℕ → Memories → A → List ℕ → Memories → Type 0) → (l panel store : Slice) → A → Type 0
+OnBoth R l panel store a = R (now (l .entry)) (memories (now (panel .entry)) (now (store .entry))) a (now (l .exit)) (memories (now (panel .exit)) (now (store .exit)))
+
+abbrev pub OnStore : (List ℕ → Memories → Parts → List ℕ → Memories → Type 0) → (l store : Slice) → Parts → Type 0
+OnStore R l store a = (m : List ℕ) → R (now (l .entry)) (memories m (now (store .entry))) a (now (l .exit)) (memories m (now (store .exit)))
+
+abbrev pub OnPanel : (List ℕ → Memories → Parts → List ℕ → Memories → Type 0) → (l panel : Slice) → Parts → Type 0
+OnPanel R l panel a = (m : List ℕ) → R (now (l .entry)) (memories (now (panel .entry)) m) a (now (l .exit)) (memories (now (panel .exit)) m)
+
+abbrev pub OnNumbers : (List ℕ → Memories → Parts → List ℕ → Memories → Type 0) → Slice → Parts → Type 0
+OnNumbers R l a = (ms : Memories) → R (now (l .entry)) ms a (now (l .exit)) ms

@@ -3,9 +3,8 @@ ghost use mathlib.Core.Path.{_≡_};
 ghost use Rattle.numbers.specs.View.{view};
 ghost use Rattle.plan.specs.Select.{selectIn, selectedOf, selectInto};
 ghost use Rattle.ready.proofs.Ready.{Lent};
-ghost use Rattle.paint.specs.Memories.{Memories};
 ghost use Rattle.plan.specs.Answer.{partsOf};
-ghost use Rattle.plan.specs.Followed.{Followed};
+ghost use Rattle.plan.specs.Followed.{Followed, OnNumbers};
 use gdi::Dc;
 use gdi::DcFound;
 use gdi::Kind;
@@ -60,7 +59,7 @@ pub fn selected(d: Dc, kind: Kind) -> u32
 // Selects an object into a DC. The handle selected before; 0 if nothing is selected.
 pub fn select_into(numbers: &mut [u32], dc: u32, object: u32) -> Answer
     requires { ⌜ Lent (now numbers) (view (now numbers) .«panel_len») (view (now numbers) .«store_len») ⌝ }
-    ensures { λ r. ⌜ ((ms : Memories) → Followed (selectInto (view (now (numbers .entry))) dc object) (now (numbers .entry)) ms (partsOf r) (now (numbers .exit)) ms) ⌝ }
+    ensures { λ r. ⌜ OnNumbers (λ n. Followed (selectInto (view n) dc object) n) numbers (partsOf r) ⌝ }
 {
     let k = lookup::find_kind(numbers, object);
     if let Kind::Other = k {

@@ -2,9 +2,8 @@
 ghost use Rattle.numbers.specs.View.{view};
 ghost use Rattle.plan.specs.Settings.{setTextColor, setTextAlign, setBkColor, setBkMode};
 ghost use Rattle.ready.proofs.Ready.{Lent};
-ghost use Rattle.paint.specs.Memories.{Memories};
 ghost use Rattle.plan.specs.Answer.{partsOf};
-ghost use Rattle.plan.specs.Followed.{Followed};
+ghost use Rattle.plan.specs.Followed.{Followed, OnNumbers};
 use color::Colorref;
 use gdi::DcFound;
 use plan::Answer;
@@ -14,7 +13,7 @@ pub const NO_DC: u32 = 1;
 
 pub fn set_text_color(numbers: &mut [u32], dc: u32, color: Colorref) -> Answer
     requires { ⌜ Lent (now numbers) (view (now numbers) .«panel_len») (view (now numbers) .«store_len») ⌝ }
-    ensures { λ r. ⌜ ((ms : Memories) → Followed (setTextColor (view (now (numbers .entry))) dc color) (now (numbers .entry)) ms (partsOf r) (now (numbers .exit)) ms) ⌝ }
+    ensures { λ r. ⌜ OnNumbers (λ n. Followed (setTextColor (view n) dc color) n) numbers (partsOf r) ⌝ }
 {
     match lookup::find_dc(numbers, dc) {
         DcFound::Is(p, d) => {
@@ -30,7 +29,7 @@ pub fn set_text_color(numbers: &mut [u32], dc: u32, color: Colorref) -> Answer
 
 pub fn set_text_align(numbers: &mut [u32], dc: u32, align: u32) -> Answer
     requires { ⌜ Lent (now numbers) (view (now numbers) .«panel_len») (view (now numbers) .«store_len») ⌝ }
-    ensures { λ r. ⌜ ((ms : Memories) → Followed (setTextAlign (view (now (numbers .entry))) dc align) (now (numbers .entry)) ms (partsOf r) (now (numbers .exit)) ms) ⌝ }
+    ensures { λ r. ⌜ OnNumbers (λ n. Followed (setTextAlign (view n) dc align) n) numbers (partsOf r) ⌝ }
 {
     match lookup::find_dc(numbers, dc) {
         DcFound::Is(p, d) => {
@@ -46,7 +45,7 @@ pub fn set_text_align(numbers: &mut [u32], dc: u32, align: u32) -> Answer
 
 pub fn set_bk_color(numbers: &mut [u32], dc: u32, color: Colorref) -> Answer
     requires { ⌜ Lent (now numbers) (view (now numbers) .«panel_len») (view (now numbers) .«store_len») ⌝ }
-    ensures { λ r. ⌜ ((ms : Memories) → Followed (setBkColor (view (now (numbers .entry))) dc color) (now (numbers .entry)) ms (partsOf r) (now (numbers .exit)) ms) ⌝ }
+    ensures { λ r. ⌜ OnNumbers (λ n. Followed (setBkColor (view n) dc color) n) numbers (partsOf r) ⌝ }
 {
     match lookup::find_dc(numbers, dc) {
         DcFound::Is(p, d) => {
@@ -62,7 +61,7 @@ pub fn set_bk_color(numbers: &mut [u32], dc: u32, color: Colorref) -> Answer
 
 pub fn set_bk_mode(numbers: &mut [u32], dc: u32, transparent: bool) -> Answer
     requires { ⌜ Lent (now numbers) (view (now numbers) .«panel_len») (view (now numbers) .«store_len») ⌝ }
-    ensures { λ r. ⌜ ((ms : Memories) → Followed (setBkMode (view (now (numbers .entry))) dc transparent) (now (numbers .entry)) ms (partsOf r) (now (numbers .exit)) ms) ⌝ }
+    ensures { λ r. ⌜ OnNumbers (λ n. Followed (setBkMode (view n) dc transparent) n) numbers (partsOf r) ⌝ }
 {
     match lookup::find_dc(numbers, dc) {
         DcFound::Is(p, d) => {

@@ -60,12 +60,6 @@ used b = startOf b (b .count)
 -- sum of 2·w·h over created bitmaps fits the store.
 unfoldable pub isSound : GdiState → Bool
 isSound b =
-    leb (b .«panel_len») limit
-    && (leb (b .«store_len») limit
-    && (leb (b .count) 256
-    && (side (b .width)
-    && (side (b .height)
-    && (leb (size (b .width) (b .height)) (b .«panel_len»)
-    && (slotsFit b
-    && (distinct (b .objects) (b .count)
-    && leb (used b) (b .«store_len»))))))))
+    leb (b .«panel_len») limit && (leb (b .«store_len») limit && (leb (b .count) 256
+    && (side (b .width) && (side (b .height) && (leb (size (b .width) (b .height)) (b .«panel_len»)
+    && (slotsFit b && (distinct (b .objects) (b .count) && leb (used b) (b .«store_len»))))))))

@@ -11,12 +11,6 @@ use Rattle.canvas.proofs.Lent.{lent-in-order, no-mark, no-byte, mark-at
 use Rattle.canvas.proofs.draw_at.Statement.{statement}
 use Rattle.canvas.proofs.draw_at.Tie as tie
 
-enum-told : tie.Need-enum-told
-enum-told c = search needs
-
-enum-known-at : tie.Need-enum-known-at
-enum-known-at c = search needs
-
 -- the place that was taken apart, in its memory
 here : (c : tie.After-known-told) →
     let a = c .before .before .before .before .before .before .args in
@@ -33,9 +27,6 @@ cast-n c = omega (arith, few-pixels (here c))
 mul-n-2 : tie.Need-mul-n-2
 mul-n-2 c = omega (arith, few-pixels (here c))
 
-enum-told-2 : tie.Need-enum-told-2
-enum-told-2 c = search needs
-
 in-panel : (c : tie.After-enum-told2) →
     let k = c .before .before .before in
     let g = k .at .given .0 in
@@ -45,20 +36,11 @@ in-panel c = let k = c .before .before .before in taken-apart _ _ Panel (k .befo
 add-draw-on : tie.Need-add-draw-on
 add-draw-on c = omega (arith, in-panel c .fits)
 
-sub-draw-on : tie.Need-sub-draw-on
-sub-draw-on c = search needs
-
-part-draw-on-start : tie.Need-part-draw-on-start
-part-draw-on-start c = search needs
-
 part-draw-on-end : tie.Need-part-draw-on-end
 part-draw-on-end c = in-panel c .fits
 
 draw-on-requires : tie.Need-draw-on-requires
 draw-on-requires c κs = (lent-in-order _ _ _ _ (in-panel (c .before)), c .before .before .before .before .before .before .before .before .before .pre .1)
-
-enum-told-3 : tie.Need-enum-told-3
-enum-told-3 c = search needs
 
 in-store : (c : tie.After-enum-told3) →
     let k = c .before .before .before in
@@ -68,12 +50,6 @@ in-store c = let k = c .before .before .before in taken-apart _ _ Store (k .befo
 
 add-draw-on-2 : tie.Need-add-draw-on-2
 add-draw-on-2 c = omega (arith, in-store c .fits)
-
-sub-draw-on-2 : tie.Need-sub-draw-on-2
-sub-draw-on-2 c = search needs
-
-part-draw-on-start-2 : tie.Need-part-draw-on-start-2
-part-draw-on-start-2 c = search needs
 
 part-draw-on-end-2 : tie.Need-part-draw-on-end-2
 part-draw-on-end-2 c = in-store c .fits
@@ -87,9 +63,6 @@ returns c =
     let e = c .enum-told .given .1 in
     (no-mark e (marksOf (a .drawing)), no-byte e (drawnOf (a .drawing) (a .units .now) (a .color .0)) _)
 
-same-length : tie.Need-same-length
-same-length c = search needs
-
 returns-2 : tie.Need-returns-2
 returns-2 c =
     let m = c .before .before .before .before in
@@ -100,9 +73,6 @@ returns-2 c =
       mark-at e (marksOf (a .drawing)) (r .0),
       back-in-panel e (drawnOf (a .drawing) (a .units .now) (a .color .0)) (a .panel .now) (a .store .now) (m .enum-told2 .given .1) (r .1),
     )
-
-same-length-2 : tie.Need-same-length-2
-same-length-2 c = search needs
 
 returns-3 : tie.Need-returns-3
 returns-3 c =
@@ -118,26 +88,7 @@ returns-3 c =
 pub draw-at-spec : {M : Type 1} → statement M
 draw-at-spec =
     tie.close
-    (tie.spec
-    enum-told
-    enum-known-at
-    mul-n
-    cast-n
-    mul-n-2
-    enum-told-2
-    add-draw-on
-    sub-draw-on
-    part-draw-on-start
-    part-draw-on-end
-    draw-on-requires
-    enum-told-3
-    add-draw-on-2
-    sub-draw-on-2
-    part-draw-on-start-2
-    part-draw-on-end-2
-    draw-on-requires-2
-    returns
-    same-length
-    returns-2
-    same-length-2
-    returns-3)
+    (tie.spec (λ c. search needs) (λ c. search needs) mul-n cast-n mul-n-2 (λ c. search needs)
+    add-draw-on (λ c. search needs) (λ c. search needs) part-draw-on-end draw-on-requires
+    (λ c. search needs) add-draw-on-2 (λ c. search needs) (λ c. search needs) part-draw-on-end-2
+    draw-on-requires-2 returns (λ c. search needs) returns-2 (λ c. search needs) returns-3)

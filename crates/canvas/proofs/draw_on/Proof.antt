@@ -5,28 +5,10 @@ use Rattle.canvas.proofs.Drawn.{as-fill, as-outline, as-text, countable
 use Rattle.canvas.proofs.draw_on.Statement.{statement}
 use Rattle.canvas.proofs.draw_on.Tie as tie
 
-enum-known-drawing : tie.Need-enum-known-drawing
-enum-known-drawing c = search needs
-
-fill-box-rop-requires : tie.Need-fill-box-rop-requires
-fill-box-rop-requires c κs = search needs
-
-enum-known-drawing-2 : tie.Need-enum-known-drawing-2
-enum-known-drawing-2 c = search needs
-
-stroke-box-requires : tie.Need-stroke-box-requires
-stroke-box-requires c κs = search needs
-
-enum-known-drawing-3 : tie.Need-enum-known-drawing-3
-enum-known-drawing-3 c = search needs
-
 draw-units-requires : tie.Need-draw-units-requires
 draw-units-requires c κs =
     let s = c .before .before .before .before .before .before .before .before in
     (s .pre .0, countable _ (s .pre .1) (c .before .before .before .before .drawing3 .given .1))
-
-same-length : tie.Need-same-length
-same-length c = search needs
 
 returns : tie.Need-returns
 returns c =
@@ -37,9 +19,6 @@ returns c =
     (record { sfits = f .0 .1 }) (record { sfits = f .1 .0 .1 }) (record { sfits = f .1 .1 .0 .1 }) (record { sfits = f .1 .1 .1 .0 .1 })
     (c .before .before .before .before .before .before .before .before .before .drawing .given .1) (r .0) (r .1)
 
-same-length-2 : tie.Need-same-length-2
-same-length-2 c = search needs
-
 returns-2 : tie.Need-returns-2
 returns-2 c =
     let s = c .before .before .before .before .before .before .before .before .before .before .before .before .before in
@@ -49,9 +28,6 @@ returns-2 c =
     as-outline (a .units .now) (a .color .0) (a .width) (a .height) (a .pixels .now)
     (record { sfits = f .0 .1 }) (record { sfits = f .1 .0 .1 }) (record { sfits = f .1 .1 .0 .1 }) (record { sfits = f .1 .1 .1 .0 .1 })
     (omega (arith, s .good .1 .1 .1 .1 .1 .0)) (c .before .before .before .before .before .before .before .before .before .drawing2 .given .1) (r .0) (r .1)
-
-same-length-3 : tie.Need-same-length-3
-same-length-3 c = search needs
 
 returns-3 : tie.Need-returns-3
 returns-3 c =
@@ -64,16 +40,6 @@ returns-3 c =
 pub draw-on-spec : {M : Type 1} → statement M
 draw-on-spec =
     tie.close
-    (tie.spec
-    enum-known-drawing
-    fill-box-rop-requires
-    enum-known-drawing-2
-    stroke-box-requires
-    enum-known-drawing-3
-    draw-units-requires
-    same-length
-    returns
-    same-length-2
-    returns-2
-    same-length-3
-    returns-3)
+    (tie.spec (λ c. search needs) (λ c κs. search needs) (λ c. search needs) (λ c κs. search needs)
+    (λ c. search needs) draw-units-requires (λ c. search needs) returns (λ c. search needs)
+    returns-2 (λ c. search needs) returns-3)

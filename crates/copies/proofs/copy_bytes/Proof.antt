@@ -16,35 +16,8 @@ Inv-loop dst₀ src d s n k₀ k-end dst k = (dst ≡ written (between (2 * d) (
 abbrev μ-loop : tie.MeasureT-loop
 μ-loop dst₀ src d s n k₀ k-end dst k = 2 * n - k
 
-mul-k-end : tie.Need-mul-k-end Inv-loop μ-loop
-mul-k-end c = omega arith
-
 loop-holds : tie.Need-loop-holds Inv-loop μ-loop
 loop-holds c = let a = c .args in (write-first (λ j. getD (a .src .now) (2 * a .s + (j - 2 * a .d)) 0) (a .dst .now) (2 * a .d), (refl, (omega arith, λ h. absurd (omega arith))))
-
-mul-dst : tie.Need-mul-dst Inv-loop μ-loop
-mul-dst c = omega arith
-
-add-dst : tie.Need-add-dst Inv-loop μ-loop
-add-dst c = omega arith
-
-shared-slice-read-dst : tie.Need-shared-slice-read-dst Inv-loop μ-loop
-shared-slice-read-dst c = omega arith
-
-mul-dst-2 : tie.Need-mul-dst-2 Inv-loop μ-loop
-mul-dst-2 c = omega arith
-
-add-dst-2 : tie.Need-add-dst-2 Inv-loop μ-loop
-add-dst-2 c = omega arith
-
-slice-write-dst : tie.Need-slice-write-dst Inv-loop μ-loop
-slice-write-dst c = omega arith
-
-add-k : tie.Need-add-k Inv-loop μ-loop
-add-k c = omega arith
-
-loop-less : tie.Need-loop-less Inv-loop μ-loop
-loop-less c = omega arith
 
 loop-again : tie.Need-loop-again Inv-loop μ-loop
 loop-again c =
@@ -53,9 +26,6 @@ loop-again c =
       write-next (λ j. getD (a .src .now) (2 * a .s + (j - 2 * a .d)) 0) (a .dst .now) (2 * a .d) (l .k) (getD (a .src .now) (2 * a .s + l .k) 0) (omega arith) (l .inv .0) (ap (λ (j : ℕ). getD (a .src .now) j 0) (omega arith)),
       (simp length-set (l .inv .1 .0), (omega arith, λ h j. omega (arith, c .shared-slice-known .given j))),
     )
-
-same-length : tie.Need-same-length Inv-loop μ-loop
-same-length c = search needs
 
 returns : tie.Need-returns Inv-loop μ-loop
 returns c =
@@ -67,19 +37,6 @@ returns c =
 pub copy-bytes-spec : {M : Type 1} → statement M
 copy-bytes-spec =
     tie.close
-    (tie.spec
-    Inv-loop
-    μ-loop
-    mul-k-end
-    loop-holds
-    mul-dst
-    add-dst
-    shared-slice-read-dst
-    mul-dst-2
-    add-dst-2
-    slice-write-dst
-    add-k
-    loop-less
-    loop-again
-    same-length
-    returns)
+    (tie.spec Inv-loop μ-loop (λ c. omega arith) loop-holds (λ c. omega arith) (λ c. omega arith)
+    (λ c. omega arith) (λ c. omega arith) (λ c. omega arith) (λ c. omega arith) (λ c. omega arith)
+    (λ c. omega arith) loop-again (λ c. search needs) returns)

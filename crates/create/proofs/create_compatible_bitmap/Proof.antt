@@ -12,15 +12,6 @@ returns c = λ panel. too-wide _ _ _ (c .before .before .before .pre .is-record)
 returns-2 : tie.Need-returns-2
 returns-2 c = λ panel. too-high _ _ _ (omega arith) (c .before .before .before .before .pre .is-record) (omega arith) _
 
-side-of-requires : tie.Need-side-of-requires
-side-of-requires c κs = search needs
-
-side-of-requires-2 : tie.Need-side-of-requires-2
-side-of-requires-2 c κs = search needs
-
-new-bitmap-requires : tie.Need-new-bitmap-requires
-new-bitmap-requires c κs = search needs
-
 make-requires : tie.Need-make-requires
 make-requires c κs =
     let n = c .before .before in
@@ -28,12 +19,6 @@ make-requires c κs =
     let a = s .before in
     let b = a .before .before .before .before .before in
     (b .pre, rw (n .new-bitmap .ensures) (together (side-taken (b .args .width) (a .side-of .ensures) (omega arith)) (side-taken (b .args .height) (s .side-of2 .ensures) (omega arith))))
-
-same-length : tie.Need-same-length
-same-length c = search needs
-
-same-length-2 : tie.Need-same-length-2
-same-length-2 c = search needs
 
 returns-3 : tie.Need-returns-3
 returns-3 c =
@@ -46,13 +31,5 @@ returns-3 c =
 pub create-compatible-bitmap-spec : {M : Type 1} → statement M
 create-compatible-bitmap-spec =
     tie.close
-    (tie.spec
-    returns
-    returns-2
-    side-of-requires
-    side-of-requires-2
-    new-bitmap-requires
-    make-requires
-    same-length
-    same-length-2
-    returns-3)
+    (tie.spec returns returns-2 (λ c κs. search needs) (λ c κs. search needs) (λ c κs. search needs)
+    make-requires (λ c. search needs) (λ c. search needs) returns-3)

@@ -5,15 +5,6 @@ use borrow.Author.Needs.{needs}
 use Rattle.create.proofs.create_font.Statement.{statement}
 use Rattle.create.proofs.create_font.Tie as tie
 
-make-requires : tie.Need-make-requires
-make-requires c κs = search needs
-
-same-length : tie.Need-same-length
-same-length c = search needs
-
-same-length-2 : tie.Need-same-length-2
-same-length-2 c = search needs
-
 returns : tie.Need-returns
 returns c =
     let m = c .before .before .before .before in
@@ -21,4 +12,5 @@ returns c =
     rw (← toZ-ofZ w32 (s .args .height) (s .fits .height)) (m .make .ensures)
 
 pub create-font-spec : {M : Type 1} → statement M
-create-font-spec = tie.close (tie.spec make-requires same-length same-length-2 returns)
+create-font-spec = tie.close
+    (tie.spec (λ c κs. search needs) (λ c. search needs) (λ c. search needs) returns)

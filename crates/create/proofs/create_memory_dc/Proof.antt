@@ -3,17 +3,8 @@ use borrow.Author.Needs.{needs}
 use Rattle.create.proofs.create_memory_dc.Statement.{statement}
 use Rattle.create.proofs.create_memory_dc.Tie as tie
 
-default-dc-requires : tie.Need-default-dc-requires
-default-dc-requires c κs = search needs
-
 make-requires : tie.Need-make-requires
 make-requires c κs = (c .before .before .before .before .before .pre, rw (c .before .before .default-dc .ensures))
-
-same-length : tie.Need-same-length
-same-length c = search needs
-
-same-length-2 : tie.Need-same-length-2
-same-length-2 c = search needs
 
 returns : tie.Need-returns
 returns c =
@@ -23,4 +14,5 @@ returns c =
 
 pub create-memory-dc-spec : {M : Type 1} → statement M
 create-memory-dc-spec =
-    tie.close (tie.spec default-dc-requires make-requires same-length same-length-2 returns)
+    tie.close
+    (tie.spec (λ c κs. search needs) make-requires (λ c. search needs) (λ c. search needs) returns)

@@ -23,9 +23,6 @@ start-of-requires c κs =
     let s = c .before .before .before .before .before in
     (s .pre .0 .is-record, (parts _ (s .pre .0 .ready .sound) .slots, search needs))
 
-object-bytes-requires : tie.Need-object-bytes-requires
-object-bytes-requires c κs = search needs
-
 add-if2 : tie.Need-add-if2
 add-if2 c =
     let s = c .before in
@@ -38,9 +35,6 @@ slice-read-if2 c = omega (arith, record-length _ (c .before .before .before .bef
 cast-if2 : tie.Need-cast-if2
 cast-if2 c = omega (arith, c .slice-known4 .given storeLenPlace)
 
-same-length : tie.Need-same-length
-same-length c = search needs
-
 returns-2 : tie.Need-returns-2
 returns-2 c =
     let o = c .before .before in
@@ -52,18 +46,6 @@ zero-requires : tie.Need-zero-requires
 zero-requires c κs =
     let s = c .before .before .before .before .before .before .before .before .before .before in
     omega (arith, store-len-seen (s .args .numbers .now), s .pre .0 .ready .store)
-
-alloc-handle-requires : tie.Need-alloc-handle-requires
-alloc-handle-requires c κs = search needs
-
-append-requires : tie.Need-append-requires
-append-requires c κs = search needs
-
-same-length-2 : tie.Need-same-length-2
-same-length-2 c = search needs
-
-same-length-3 : tie.Need-same-length-3
-same-length-3 c = search needs
 
 returns-3 : tie.Need-returns-3
 returns-3 c =
@@ -78,20 +60,6 @@ returns-3 c =
 pub make-spec : {M : Type 1} → statement M
 make-spec =
     tie.close
-    (tie.spec
-    slice-read-count
-    cast-count
-    returns
-    start-of-requires
-    object-bytes-requires
-    add-if2
-    slice-read-if2
-    cast-if2
-    same-length
-    returns-2
-    zero-requires
-    alloc-handle-requires
-    append-requires
-    same-length-2
-    same-length-3
-    returns-3)
+    (tie.spec slice-read-count cast-count returns start-of-requires (λ c κs. search needs) add-if2
+    slice-read-if2 cast-if2 (λ c. search needs) returns-2 zero-requires (λ c κs. search needs)
+    (λ c κs. search needs) (λ c. search needs) (λ c. search needs) returns-3)

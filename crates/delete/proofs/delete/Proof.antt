@@ -7,17 +7,8 @@ use borrow.Author.Needs.{needs}
 use Rattle.delete.proofs.delete.Statement.{statement}
 use Rattle.delete.proofs.delete.Tie as tie
 
-is-stock-handle-requires : tie.Need-is-stock-handle-requires
-is-stock-handle-requires c κs = search needs
-
 returns : tie.Need-returns
 returns c = λ panel. acceptance-same (c .before .before .before .before .pre .is-record) refl (stays _ _ _ _ _ (sym (c .before .is-stock-handle .ensures) ∙ c .if1 .taken))
-
-find-requires : tie.Need-find-requires
-find-requires c κs = search needs
-
-enum-known-i : tie.Need-enum-known-i
-enum-known-i c = search needs
 
 take-out-requires : tie.Need-take-out-requires
 take-out-requires c κs =
@@ -25,15 +16,6 @@ take-out-requires c κs =
     let f = i .before .before in
     let s = f .before .before .before .before .before .before in
     (s .pre .is-record, (s .pre .ready .sound, (found-in (s .args .numbers .now) _ (sym (f .find .ensures) ∙ i .i .given .1), s .pre .ready .store)))
-
-enum-told : tie.Need-enum-told
-enum-told c = search needs
-
-same-length : tie.Need-same-length
-same-length c = search needs
-
-same-length-2 : tie.Need-same-length-2
-same-length-2 c = search needs
 
 returns-2 : tie.Need-returns-2
 returns-2 c =
@@ -43,9 +25,6 @@ returns-2 c =
     let a = f .before .before in
     let b = a .before in
     gone-followed _ _ _ _ _ (leaves _ _ _ _ _ (sym (b .is-stock-handle .ensures) ∙ a .if1 .left) (f .find .ensures) (i .i .given .1)) refl refl (t .take-out .ensures .0) (t .take-out .ensures .1)
-
-same-length-3 : tie.Need-same-length-3
-same-length-3 c = search needs
 
 returns-3 : tie.Need-returns-3
 returns-3 c =
@@ -58,15 +37,6 @@ returns-3 c =
 pub delete-spec : {M : Type 1} → statement M
 delete-spec =
     tie.close
-    (tie.spec
-    is-stock-handle-requires
-    returns
-    find-requires
-    enum-known-i
-    take-out-requires
-    enum-told
-    same-length
-    same-length-2
-    returns-2
-    same-length-3
-    returns-3)
+    (tie.spec (λ c κs. search needs) returns (λ c κs. search needs) (λ c. search needs)
+    take-out-requires (λ c. search needs) (λ c. search needs) (λ c. search needs) returns-2
+    (λ c. search needs) returns-3)

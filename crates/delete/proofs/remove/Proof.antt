@@ -10,17 +10,8 @@ use borrow.Author.Needs.{needs}
 use Rattle.delete.proofs.remove.Statement.{statement}
 use Rattle.delete.proofs.remove.Tie as tie
 
-is-stock-handle-requires : tie.Need-is-stock-handle-requires
-is-stock-handle-requires c κs = search needs
-
 returns : tie.Need-returns
 returns c = λ panel. acceptance-same (c .before .before .before .before .pre .is-record) refl (stays _ _ _ _ _ (sym (c .before .is-stock-handle .ensures) ∙ c .if1 .taken))
-
-find-requires : tie.Need-find-requires
-find-requires c κs = search needs
-
-enum-known-i : tie.Need-enum-known-i
-enum-known-i c = search needs
 
 mul-p : tie.Need-mul-p
 mul-p c =
@@ -78,12 +69,6 @@ mul-object-of-2 c =
     let s = f .before .before .before .before .before .before in
     omega (arith, found-room _ (s .pre .is-record) _ (f .find .ensures) (i .i .given .1))
 
-sub-object-of : tie.Need-sub-object-of
-sub-object-of c = search needs
-
-part-object-of-start : tie.Need-part-object-of-start
-part-object-of-start c = search needs
-
 part-object-of-end : tie.Need-part-object-of-end
 part-object-of-end c =
     let i = c .before .before .before in
@@ -91,24 +76,12 @@ part-object-of-end c =
     let s = f .before .before .before .before .before .before in
     omega (arith, found-room _ (s .pre .is-record) _ (f .find .ensures) (i .i .given .1))
 
-object-of-requires : tie.Need-object-of-requires
-object-of-requires c κs = search needs
-
 take-out-requires : tie.Need-take-out-requires
 take-out-requires c κs =
     let i = c .before .before .before .before .before .before .before in
     let f = i .before .before in
     let s = f .before .before .before .before .before .before in
     (s .pre .is-record, (s .pre .ready .sound, (found-in (s .args .numbers .now) _ (sym (f .find .ensures) ∙ i .i .given .1), s .pre .ready .store)))
-
-enum-told : tie.Need-enum-told
-enum-told c = search needs
-
-same-length : tie.Need-same-length
-same-length c = search needs
-
-same-length-2 : tie.Need-same-length-2
-same-length-2 c = search needs
 
 returns-2 : tie.Need-returns-2
 returns-2 c =
@@ -123,9 +96,6 @@ returns-2 c =
     (ap removed (object-read (s .args .numbers .now) (s .pre .is-record) _ (found-in (s .args .numbers .now) _ (sym (f .find .ensures) ∙ i .i .given .1)) (o .object-of .ensures))) refl
     (t .take-out .ensures .0) (t .take-out .ensures .1)
 
-same-length-3 : tie.Need-same-length-3
-same-length-3 c = search needs
-
 returns-3 : tie.Need-returns-3
 returns-3 c =
     let f = c .before .before in
@@ -137,27 +107,8 @@ returns-3 c =
 pub remove-spec : {M : Type 1} → statement M
 remove-spec =
     tie.close
-    (tie.spec
-    is-stock-handle-requires
-    returns
-    find-requires
-    enum-known-i
-    mul-p
-    add-p
-    add-first
-    add-end
-    add-object-of
-    mul-object-of
-    slice-read-object-of
-    mul-object-of-2
-    sub-object-of
-    part-object-of-start
-    part-object-of-end
-    object-of-requires
-    take-out-requires
-    enum-told
-    same-length
-    same-length-2
-    returns-2
-    same-length-3
-    returns-3)
+    (tie.spec (λ c κs. search needs) returns (λ c κs. search needs) (λ c. search needs) mul-p add-p
+    add-first add-end add-object-of mul-object-of slice-read-object-of mul-object-of-2
+    (λ c. search needs) (λ c. search needs) part-object-of-end (λ c κs. search needs)
+    take-out-requires (λ c. search needs) (λ c. search needs) (λ c. search needs) returns-2
+    (λ c. search needs) returns-3)

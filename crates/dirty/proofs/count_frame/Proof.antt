@@ -26,23 +26,11 @@ mul-frames c = omega (arith, c .slice-known3 .given framesLowPlace, c .slice-kno
 add-frames : tie.Need-add-frames
 add-frames c = omega (arith, c .slice-known3 .given framesLowPlace, c .slice-known3 .given framesHighPlace)
 
-wrapping-add-u64-requires : tie.Need-wrapping-add-u64-requires
-wrapping-add-u64-requires c κs = search needs
-
-cast-numbers : tie.Need-cast-numbers
-cast-numbers c = search needs
-
 slice-write-numbers : tie.Need-slice-write-numbers
 slice-write-numbers c = omega (arith, record-length _ (c .before .before .before .before .pre))
 
-cast-numbers-2 : tie.Need-cast-numbers-2
-cast-numbers-2 c = search needs
-
 slice-write-numbers-2 : tie.Need-slice-write-numbers-2
 slice-write-numbers-2 c = simp length-set (omega (arith, record-length _ (c .before .before .before .before .pre)))
-
-same-length : tie.Need-same-length
-same-length c = search needs
 
 returns : tie.Need-returns
 returns c = counter-set _ (c .before .before .before .before .pre) _ (c .wrapping-add-u64 .ensures)
@@ -50,17 +38,6 @@ returns c = counter-set _ (c .before .before .before .before .pre) _ (c .wrappin
 pub count-frame-spec : {M : Type 1} → statement M
 count-frame-spec =
     tie.close
-    (tie.spec
-    slice-read-frames
-    cast-frames
-    slice-read-frames-2
-    cast-frames-2
-    mul-frames
-    add-frames
-    wrapping-add-u64-requires
-    cast-numbers
-    slice-write-numbers
-    cast-numbers-2
-    slice-write-numbers-2
-    same-length
-    returns)
+    (tie.spec slice-read-frames cast-frames slice-read-frames-2 cast-frames-2 mul-frames add-frames
+    (λ c κs. search needs) (λ c. search needs) slice-write-numbers (λ c. search needs) slice-write-numbers-2
+    (λ c. search needs) returns)

@@ -9,26 +9,11 @@ use borrow.Author.Needs.{needs}
 use Rattle.dirty.proofs.mark_dirty.Statement.{statement}
 use Rattle.dirty.proofs.mark_dirty.Tie as tie
 
-enum-told : tie.Need-enum-told
-enum-told c = search needs
-
-count-frame-requires : tie.Need-count-frame-requires
-count-frame-requires c κs = search needs
-
-enum-known-id : tie.Need-enum-known-id
-enum-known-id c = search needs
-
 slice-write-numbers : tie.Need-slice-write-numbers
 slice-write-numbers c = omega (arith, record-length _ (c .before .before .before .before .before .pre .0))
 
-same-length : tie.Need-same-length
-same-length c = search needs
-
 returns : tie.Need-returns
 returns c = updated-as (mark-stock _ (c .before .before .id .given .1) (c .if1 .taken)) (stock-set _ (c .before .before .before .before .before .pre .0))
-
-enum-known-slot : tie.Need-enum-known-slot
-enum-known-slot c = search needs
 
 mark-slot-requires : tie.Need-mark-slot-requires
 mark-slot-requires c κs =
@@ -38,17 +23,8 @@ mark-slot-requires c κs =
     let b = a .before .before .before in
     (b .pre .0, found-in _ _ (slot-found _ (a .id .given .1) (i .if1 .left) (b .pre .1) (s .slot .given .1)))
 
-enum-told-2 : tie.Need-enum-told-2
-enum-told-2 c = search needs
-
-same-length-2 : tie.Need-same-length-2
-same-length-2 c = search needs
-
 returns-2 : tie.Need-returns-2
 returns-2 c = updated-as (mark-panel _ (c .before .before .before .before .enum-told .given .1) refl) (c .before .before .count-frame .ensures)
-
-same-length-3 : tie.Need-same-length-3
-same-length-3 c = search needs
 
 returns-3 : tie.Need-returns-3
 returns-3 c =
@@ -69,18 +45,6 @@ returns-4 c =
 pub mark-dirty-spec : {M : Type 1} → statement M
 mark-dirty-spec =
     tie.close
-    (tie.spec
-    enum-told
-    count-frame-requires
-    enum-known-id
-    slice-write-numbers
-    same-length
-    returns
-    enum-known-slot
-    mark-slot-requires
-    enum-told-2
-    same-length-2
-    returns-2
-    same-length-3
-    returns-3
-    returns-4)
+    (tie.spec (λ c. search needs) (λ c κs. search needs) (λ c. search needs) slice-write-numbers
+    (λ c. search needs) returns (λ c. search needs) mark-slot-requires (λ c. search needs)
+    (λ c. search needs) returns-2 (λ c. search needs) returns-3 returns-4)

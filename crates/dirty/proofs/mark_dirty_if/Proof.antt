@@ -4,12 +4,6 @@ use borrow.Author.Needs.{needs}
 use Rattle.dirty.proofs.mark_dirty_if.Statement.{statement}
 use Rattle.dirty.proofs.mark_dirty_if.Tie as tie
 
-mark-dirty-requires : tie.Need-mark-dirty-requires
-mark-dirty-requires c κs = search needs
-
-same-length : tie.Need-same-length
-same-length c = search needs
-
 returns : tie.Need-returns
 returns c = due-updated _ _ (c .before .before .before .before .if1 .taken) (c .before .before .mark-dirty .ensures)
 
@@ -17,4 +11,5 @@ returns-2 : tie.Need-returns-2
 returns-2 c = undue-updated _ _ (c .before .before .pre .0) (c .if1 .left)
 
 pub mark-dirty-if-spec : {M : Type 1} → statement M
-mark-dirty-if-spec = tie.close (tie.spec mark-dirty-requires same-length returns returns-2)
+mark-dirty-if-spec = tie.close
+    (tie.spec (λ c κs. search needs) (λ c. search needs) returns returns-2)

@@ -29,9 +29,6 @@ mul-numbers c = omega (arith, room _ (c .before .before .pre .0) _ (c .before .b
 slice-write-numbers : tie.Need-slice-write-numbers
 slice-write-numbers c = omega (arith, room _ (c .before .before .pre .0) _ (c .before .before .pre .1))
 
-same-length : tie.Need-same-length
-same-length c = search needs
-
 returns : tie.Need-returns
 returns c = bitmap-set _ (c .before .before .pre .0) _ (c .before .before .pre .1) (c .if1 .taken)
 
@@ -41,15 +38,5 @@ returns-2 c = other-kept _ (c .before .before .pre .0) _ (c .before .before .pre
 pub mark-slot-spec : {M : Type 1} → statement M
 mark-slot-spec =
     tie.close
-    (tie.spec
-    mul-p
-    add-p
-    add-if1
-    mul-if1
-    slice-read-if1
-    add-numbers
-    mul-numbers
-    slice-write-numbers
-    same-length
-    returns
-    returns-2)
+    (tie.spec mul-p add-p add-if1 mul-if1 slice-read-if1 add-numbers mul-numbers slice-write-numbers
+    (λ c. search needs) returns returns-2)

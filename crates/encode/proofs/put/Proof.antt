@@ -7,18 +7,6 @@ use Rattle.numbers.proofs.Block.{all-stored}
 use Rattle.encode.proofs.put.Statement.{statement}
 use Rattle.encode.proofs.put.Tie as tie
 
-slice-write-numbers : tie.Need-slice-write-numbers
-slice-write-numbers c = search needs
-
-slice-write-numbers-2 : tie.Need-slice-write-numbers-2
-slice-write-numbers-2 c = search needs
-
-slice-write-numbers-3 : tie.Need-slice-write-numbers-3
-slice-write-numbers-3 c = search needs
-
-slice-write-numbers-4 : tie.Need-slice-write-numbers-4
-slice-write-numbers-4 c = search needs
-
 slice-write-numbers-5 : tie.Need-slice-write-numbers-5
 slice-write-numbers-5 c = simp length-set (omega arith)
 
@@ -43,27 +31,12 @@ slice-write-numbers-11 c = simp length-set (omega arith)
 slice-write-numbers-12 : tie.Need-slice-write-numbers-12
 slice-write-numbers-12 c = simp length-set (omega arith)
 
-same-length : tie.Need-same-length
-same-length c = search needs
-
 returns : tie.Need-returns
 returns c = let p = c .args in all-stored (p .numbers .now) (p .a ∷ p .b ∷ p .c ∷ p .d ∷ p .e ∷ p .f ∷ p .g ∷ p .h ∷ p .i ∷ p .j ∷ p .k ∷ p .m ∷ []) (c .pre)
 
 pub put-spec : {M : Type 1} → statement M
 put-spec =
     tie.close
-    (tie.spec
-    slice-write-numbers
-    slice-write-numbers-2
-    slice-write-numbers-3
-    slice-write-numbers-4
-    slice-write-numbers-5
-    slice-write-numbers-6
-    slice-write-numbers-7
-    slice-write-numbers-8
-    slice-write-numbers-9
-    slice-write-numbers-10
-    slice-write-numbers-11
-    slice-write-numbers-12
-    same-length
-    returns)
+    (tie.spec (λ c. search needs) (λ c. search needs) (λ c. search needs) (λ c. search needs)
+    slice-write-numbers-5 slice-write-numbers-6 slice-write-numbers-7 slice-write-numbers-8 slice-write-numbers-9 slice-write-numbers-10
+    slice-write-numbers-11 slice-write-numbers-12 (λ c. search needs) returns)

@@ -28,24 +28,12 @@ loop-holds : tie.Need-loop-holds Inv-loop μ-loop
 unfolding view
 loop-holds c = (omega arith, (omega (arith, c .shared-slice-known2 .given nextHandlePlace), refl))
 
-is-free-requires : tie.Need-is-free-requires Inv-loop μ-loop
-is-free-requires c κs = search needs
-
 returns : tie.Need-returns Inv-loop μ-loop
 returns c =
     let v = c .before .before .before .loop .inv in
     v .1 .0
     ∙ sym (hit _ _ _ _ (omega arith) (rw (← v .1 .0) (sym (c .before .is-free .ensures) ∙ c .if1 .taken)))
     ∙ v .1 .1
-
-wrapping-add-u32-requires : tie.Need-wrapping-add-u32-requires Inv-loop μ-loop
-wrapping-add-u32-requires c κs = search needs
-
-add-i : tie.Need-add-i Inv-loop μ-loop
-add-i c = omega arith
-
-loop-less : tie.Need-loop-less Inv-loop μ-loop
-loop-less c = omega arith
 
 loop-again : tie.Need-loop-again Inv-loop μ-loop
 loop-again c =
@@ -66,15 +54,5 @@ returns-2 c =
 pub alloc-handle-spec : {M : Type 1} → statement M
 alloc-handle-spec =
     tie.close
-    (tie.spec
-    Inv-loop
-    μ-loop
-    shared-slice-read-h
-    loop-holds
-    is-free-requires
-    returns
-    wrapping-add-u32-requires
-    add-i
-    loop-less
-    loop-again
-    returns-2)
+    (tie.spec Inv-loop μ-loop shared-slice-read-h loop-holds (λ c κs. search needs) returns
+    (λ c κs. search needs) (λ c. omega arith) (λ c. omega arith) loop-again returns-2)

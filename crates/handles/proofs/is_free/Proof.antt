@@ -9,20 +9,8 @@ use Rattle.handles.proofs.is_free.Tie as tie
 returns : tie.Need-returns
 returns c = zero-taken _ _ _ (c .if1 .taken)
 
-is-stock-handle-requires : tie.Need-is-stock-handle-requires
-is-stock-handle-requires c κs = search needs
-
 returns-2 : tie.Need-returns-2
 returns-2 c = stock-taken _ _ _ (c .before .before .if1 .left) (sym (c .before .is-stock-handle .ensures) ∙ c .if2 .taken)
-
-find-requires : tie.Need-find-requires
-find-requires c κs = search needs
-
-enum-told : tie.Need-enum-told
-enum-told c = search needs
-
-enum-told-2 : tie.Need-enum-told-2
-enum-told-2 c = search needs
 
 returns-3 : tie.Need-returns-3
 returns-3 c =
@@ -41,12 +29,5 @@ returns-4 c =
 pub is-free-spec : {M : Type 1} → statement M
 is-free-spec =
     tie.close
-    (tie.spec
-    returns
-    is-stock-handle-requires
-    returns-2
-    find-requires
-    enum-told
-    enum-told-2
-    returns-3
-    returns-4)
+    (tie.spec returns (λ c κs. search needs) returns-2 (λ c κs. search needs) (λ c. search needs)
+    (λ c. search needs) returns-3 returns-4)

@@ -29,26 +29,8 @@ cast-n c = omega (arith, c .shared-slice-known .given countPlace)
 loop-holds : tie.Need-loop-holds Inv-loop μ-loop
 loop-holds c = (search needs, (record-count _ (c .before .pre), (record-length _ (c .before .pre), scan-start _ _)))
 
-mul-if1 : tie.Need-mul-if1 Inv-loop μ-loop
-mul-if1 c = omega arith
-
-add-if1 : tie.Need-add-if1 Inv-loop μ-loop
-add-if1 c = omega arith
-
-mul-if1-2 : tie.Need-mul-if1-2 Inv-loop μ-loop
-mul-if1-2 c = omega arith
-
-shared-slice-read-if1 : tie.Need-shared-slice-read-if1 Inv-loop μ-loop
-shared-slice-read-if1 c = omega arith
-
 returns : tie.Need-returns Inv-loop μ-loop
 returns c = sym (hit _ _ _ _ (c .before .before .loop-test .taken) (handle-seen _ (c .before .before .before .before .before .pre) _ (c .before .before .loop-test .taken) ∙ c .if1 .taken)) ∙ c .before .before .before .loop .inv .1 .1 .1
-
-add-i : tie.Need-add-i Inv-loop μ-loop
-add-i c = omega arith
-
-loop-less : tie.Need-loop-less Inv-loop μ-loop
-loop-less c = omega arith
 
 loop-again : tie.Need-loop-again Inv-loop μ-loop
 loop-again c = (search needs, (search needs, (search needs, sym (miss _ _ _ _ (c .before .before .loop-test .taken) (λ e. c .if1 .left (sym (handle-seen _ (c .before .before .before .before .before .pre) _ (c .before .before .loop-test .taken)) ∙ e))) ∙ c .before .before .before .loop .inv .1 .1 .1)))
@@ -59,18 +41,6 @@ returns-2 c = sym (end _ _ _ _ (c .loop-test .left)) ∙ c .before .loop .inv .1
 pub find-spec : {M : Type 1} → statement M
 find-spec =
     tie.close
-    (tie.spec
-    Inv-loop
-    μ-loop
-    shared-slice-read-n
-    cast-n
-    loop-holds
-    mul-if1
-    add-if1
-    mul-if1-2
-    shared-slice-read-if1
-    returns
-    add-i
-    loop-less
-    loop-again
-    returns-2)
+    (tie.spec Inv-loop μ-loop shared-slice-read-n cast-n loop-holds (λ c. omega arith)
+    (λ c. omega arith) (λ c. omega arith) (λ c. omega arith) returns (λ c. omega arith)
+    (λ c. omega arith) loop-again returns-2)

@@ -8,26 +8,11 @@ use Rattle.lookup.proofs.Found.{dc-of-screen, found-room, found-dc, fou
 use Rattle.lookup.proofs.find_dc.Statement.{statement}
 use Rattle.lookup.proofs.find_dc.Tie as tie
 
-sub-dc-of : tie.Need-sub-dc-of
-sub-dc-of c = search needs
-
-part-dc-of-start : tie.Need-part-dc-of-start
-part-dc-of-start c = search needs
-
 part-dc-of-end : tie.Need-part-dc-of-end
 part-dc-of-end c = omega (arith, record-length _ (c .before .before .pre))
 
-dc-of-requires : tie.Need-dc-of-requires
-dc-of-requires c κs = search needs
-
 returns : tie.Need-returns
 returns c = dc-of-screen _ _ (c .before .before .if1 .taken) (c .dc-of .ensures)
-
-find-requires : tie.Need-find-requires
-find-requires c κs = search needs
-
-enum-known-i : tie.Need-enum-known-i
-enum-known-i c = search needs
 
 mul-p : tie.Need-mul-p
 mul-p c = omega (arith, found-room _ (c .before .before .before .before .before .before .pre) _ (c .before .before .before .find .ensures) (c .before .i .given .1))
@@ -56,20 +41,8 @@ add-end c = omega (arith, found-room _ (c .before .before .before .before .befor
 mul-dc-of : tie.Need-mul-dc-of
 mul-dc-of c = omega (arith, found-room _ (c .before .before .before .before .before .before .before .before .pre) _ (c .before .before .before .before .before .find .ensures) (c .before .before .before .i .given .1))
 
-sub-dc-of-2 : tie.Need-sub-dc-of-2
-sub-dc-of-2 c = search needs
-
-part-dc-of-start-2 : tie.Need-part-dc-of-start-2
-part-dc-of-start-2 c = search needs
-
 part-dc-of-end-2 : tie.Need-part-dc-of-end-2
 part-dc-of-end-2 c = omega (arith, found-room _ (c .before .before .before .before .before .before .before .before .pre) _ (c .before .before .before .before .before .find .ensures) (c .before .before .before .i .given .1))
-
-dc-of-requires-2 : tie.Need-dc-of-requires-2
-dc-of-requires-2 c κs = search needs
-
-enum-told : tie.Need-enum-told
-enum-told c = search needs
 
 returns-3 : tie.Need-returns-3
 returns-3 c = found-dc _ (c .before .before .before .before .before .before .before .before .before .before .pre) _ (c .before .before .before .before .before .before .before .find .ensures) (c .before .before .before .before .before .i .given .1) (c .before .before .before .before .before .before .before .before .if1 .left) (c .before .before .if2 .left) (c .dc-of2 .ensures)
@@ -80,27 +53,7 @@ returns-4 c = dc-none _ _ (c .before .before .before .if1 .left) (sym (c .before
 pub find-dc-spec : {M : Type 1} → statement M
 find-dc-spec =
     tie.close
-    (tie.spec
-    sub-dc-of
-    part-dc-of-start
-    part-dc-of-end
-    dc-of-requires
-    returns
-    find-requires
-    enum-known-i
-    mul-p
-    add-p
-    add-if2
-    mul-if2
-    shared-slice-read-if2
-    returns-2
-    add-first
-    add-end
-    mul-dc-of
-    sub-dc-of-2
-    part-dc-of-start-2
-    part-dc-of-end-2
-    dc-of-requires-2
-    enum-told
-    returns-3
-    returns-4)
+    (tie.spec (λ c. search needs) (λ c. search needs) part-dc-of-end (λ c κs. search needs) returns
+    (λ c κs. search needs) (λ c. search needs) mul-p add-p add-if2 mul-if2 shared-slice-read-if2
+    returns-2 add-first add-end mul-dc-of (λ c. search needs) (λ c. search needs) part-dc-of-end-2
+    (λ c κs. search needs) (λ c. search needs) returns-3 returns-4)

@@ -6,23 +6,8 @@ use borrow.Author.Needs.{needs}
 use Rattle.lookup.proofs.update_dc.Statement.{statement}
 use Rattle.lookup.proofs.update_dc.Tie as tie
 
-enum-told : tie.Need-enum-told
-enum-told c = search needs
-
-sub-put-dc : tie.Need-sub-put-dc
-sub-put-dc c = search needs
-
-part-put-dc-start : tie.Need-part-put-dc-start
-part-put-dc-start c = search needs
-
 part-put-dc-end : tie.Need-part-put-dc-end
 part-put-dc-end c = omega (arith, record-length _ (c .before .before .before .pre .0))
-
-put-dc-requires : tie.Need-put-dc-requires
-put-dc-requires c κs = search needs
-
-enum-known-spot : tie.Need-enum-known-spot
-enum-known-spot c = search needs
 
 mul-p : tie.Need-mul-p
 mul-p c = omega (arith, spot-room _ (c .before .before .before .before .pre .0) _ (c .before .before .before .before .pre .1) (c .before .spot .given .1))
@@ -39,26 +24,11 @@ add-end c = omega (arith, spot-room _ (c .before .before .before .before .pre .0
 mul-put-dc : tie.Need-mul-put-dc
 mul-put-dc c = omega (arith, spot-room _ (c .before .before .before .before .pre .0) _ (c .before .before .before .before .pre .1) (c .before .spot .given .1))
 
-sub-put-dc-2 : tie.Need-sub-put-dc-2
-sub-put-dc-2 c = search needs
-
-part-put-dc-start-2 : tie.Need-part-put-dc-start-2
-part-put-dc-start-2 c = search needs
-
 part-put-dc-end-2 : tie.Need-part-put-dc-end-2
 part-put-dc-end-2 c = omega (arith, spot-room _ (c .before .before .before .before .pre .0) _ (c .before .before .before .before .pre .1) (c .before .spot .given .1))
 
-put-dc-requires-2 : tie.Need-put-dc-requires-2
-put-dc-requires-2 c κs = search needs
-
-same-length : tie.Need-same-length
-same-length c = search needs
-
 returns : tie.Need-returns
 returns c = updated-screen _ (c .before .before .before .before .before .before .before .pre .0) _ (c .before .before .put-dc .last .0) (c .before .before .before .before .enum-told .given .1) (c .before .before .put-dc .kept .0) (c .before .before .put-dc .ensures)
-
-same-length-2 : tie.Need-same-length-2
-same-length-2 c = search needs
 
 returns-2 : tie.Need-returns-2
 returns-2 c = updated-created _ (c .before .before .before .before .before .before .before .before .pre .0) _ (c .before .before .before .before .before .before .before .before .pre .1) (c .before .before .before .before .before .spot .given .1) (c .before .before .put-dc2 .last .0) (c .before .before .put-dc2 .kept .0) (c .before .before .put-dc2 .ensures)
@@ -66,23 +36,7 @@ returns-2 c = updated-created _ (c .before .before .before .before .before .befo
 pub update-dc-spec : {M : Type 1} → statement M
 update-dc-spec =
     tie.close
-    (tie.spec
-    enum-told
-    sub-put-dc
-    part-put-dc-start
-    part-put-dc-end
-    put-dc-requires
-    enum-known-spot
-    mul-p
-    add-p
-    add-first
-    add-end
-    mul-put-dc
-    sub-put-dc-2
-    part-put-dc-start-2
-    part-put-dc-end-2
-    put-dc-requires-2
-    same-length
-    returns
-    same-length-2
-    returns-2)
+    (tie.spec (λ c. search needs) (λ c. search needs) (λ c. search needs) part-put-dc-end
+    (λ c κs. search needs) (λ c. search needs) mul-p add-p add-first add-end mul-put-dc
+    (λ c. search needs) (λ c. search needs) part-put-dc-end-2 (λ c κs. search needs)
+    (λ c. search needs) returns (λ c. search needs) returns-2)

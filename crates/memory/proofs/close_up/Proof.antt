@@ -10,18 +10,6 @@ use Rattle.memory.proofs.close_up.Tie as tie
 returns : tie.Need-returns
 returns c = let a = c .before .before .args in closed-none 0 (a .mem .now) (a .p) (a .n) (a .used) (c .if1 .taken) (omega arith)
 
-sub-end : tie.Need-sub-end
-sub-end c = search needs
-
-move-down-requires : tie.Need-move-down-requires
-move-down-requires c κs = search needs
-
-zero-requires : tie.Need-zero-requires
-zero-requires c κs = search needs
-
-same-length : tie.Need-same-length
-same-length c = search needs
-
 returns-2 : tie.Need-returns-2
 returns-2 c =
     let e = c .before .before .before .before .before .before .before .before .before .before in
@@ -33,4 +21,6 @@ returns-2 c =
 
 pub close-up-spec : {M : Type 1} → statement M
 close-up-spec =
-    tie.close (tie.spec returns sub-end move-down-requires zero-requires same-length returns-2)
+    tie.close
+    (tie.spec returns (λ c. search needs) (λ c κs. search needs) (λ c κs. search needs)
+    (λ c. search needs) returns-2)

@@ -7,18 +7,6 @@ use borrow.Author.Needs.{needs}
 use Rattle.open.proofs.put_head.Statement.{statement}
 use Rattle.open.proofs.put_head.Tie as tie
 
-slice-write-numbers : tie.Need-slice-write-numbers
-slice-write-numbers c = search needs
-
-slice-write-numbers-2 : tie.Need-slice-write-numbers-2
-slice-write-numbers-2 c = search needs
-
-slice-write-numbers-3 : tie.Need-slice-write-numbers-3
-slice-write-numbers-3 c = search needs
-
-slice-write-numbers-4 : tie.Need-slice-write-numbers-4
-slice-write-numbers-4 c = search needs
-
 slice-write-numbers-5 : tie.Need-slice-write-numbers-5
 slice-write-numbers-5 c = simp length-set (omega arith)
 
@@ -34,24 +22,12 @@ slice-write-numbers-8 c = simp length-set (omega arith)
 slice-write-numbers-9 : tie.Need-slice-write-numbers-9
 slice-write-numbers-9 c = simp length-set (omega arith)
 
-same-length : tie.Need-same-length
-same-length c = search needs
-
 returns : tie.Need-returns
 returns c = all-stored (c .args .numbers .now) (c .args .panel-len ∷ c .args .store-len ∷ c .args .width ∷ c .args .height ∷ 0 ∷ 0 ∷ 0xDEAD_1000 ∷ 0 ∷ 0 ∷ []) (c .pre)
 
 pub put-head-spec : {M : Type 1} → statement M
 put-head-spec =
     tie.close
-    (tie.spec
-    slice-write-numbers
-    slice-write-numbers-2
-    slice-write-numbers-3
-    slice-write-numbers-4
-    slice-write-numbers-5
-    slice-write-numbers-6
-    slice-write-numbers-7
-    slice-write-numbers-8
-    slice-write-numbers-9
-    same-length
-    returns)
+    (tie.spec (λ c. search needs) (λ c. search needs) (λ c. search needs) (λ c. search needs)
+    slice-write-numbers-5 slice-write-numbers-6 slice-write-numbers-7 slice-write-numbers-8 slice-write-numbers-9
+    (λ c. search needs) returns)

@@ -10,12 +10,6 @@ use Rattle.open.proofs.Opened.{bad-width, bad-height, long-panel, long-
 use Rattle.open.proofs.refusal.Statement.{statement}
 use Rattle.open.proofs.refusal.Tie as tie
 
-is-side-requires : tie.Need-is-side-requires
-is-side-requires c κs = search needs
-
-is-side-requires-2 : tie.Need-is-side-requires-2
-is-side-requires-2 c κs = search needs
-
 -- both sides are in their limits
 module _ (c : tie.Then2) where
   wide : side (c .before .before .before .before .args .width) ≡ true
@@ -63,15 +57,5 @@ returns-7 c = bad-width _ _ _ _ (sym (c .before .is-side .ensures) ∙ c .if1 .l
 pub refusal-spec : {M : Type 1} → statement M
 refusal-spec =
     tie.close
-    (tie.spec
-    is-side-requires
-    is-side-requires-2
-    returns
-    returns-2
-    mul-if5
-    mul-if5-2
-    returns-3
-    returns-4
-    returns-5
-    returns-6
-    returns-7)
+    (tie.spec (λ c κs. search needs) (λ c κs. search needs) returns returns-2 mul-if5 mul-if5-2
+    returns-3 returns-4 returns-5 returns-6 returns-7)

@@ -28,12 +28,6 @@ fill-run-requires c κs =
 mark-dirty-requires : tie.Need-mark-dirty-requires
 mark-dirty-requires c κs = (c .before .before .before .before .before .before .before .before .before .pre .is-record, refl)
 
-same-length : tie.Need-same-length
-same-length c = search needs
-
-same-length-2 : tie.Need-same-length-2
-same-length-2 c = search needs
-
 returns : tie.Need-returns
 returns c =
     let m = c .before .before in
@@ -44,13 +38,5 @@ returns c =
 pub fill-spec : {M : Type 1} → statement M
 fill-spec =
     tie.close
-    (tie.spec
-    slice-read-n
-    slice-read-n-2
-    mul-n
-    cast-n
-    fill-run-requires
-    mark-dirty-requires
-    same-length
-    same-length-2
-    returns)
+    (tie.spec slice-read-n slice-read-n-2 mul-n cast-n fill-run-requires mark-dirty-requires
+    (λ c. search needs) (λ c. search needs) returns)

@@ -16,9 +16,6 @@ slice-read-no-effect c = omega (arith, record-length _ (c .before .before .befor
 slice-read-no-effect-2 : tie.Need-slice-read-no-effect-2
 slice-read-no-effect-2 c = omega (arith, record-length _ (c .before .before .before .before .pre .is-record))
 
-no-effect-requires : tie.Need-no-effect-requires
-no-effect-requires c κs = search needs
-
 returns : tie.Need-returns
 returns c =
     let n = c .before in
@@ -69,17 +66,8 @@ zero-requires c κs =
     let s = c .before .before .before .before .before .before .before .before .before .before .before in
     omega (arith, panel-len-seen (s .args .numbers .now), s .pre .ready .panel)
 
-set-sides-requires : tie.Need-set-sides-requires
-set-sides-requires c κs = search needs
-
 mark-dirty-requires : tie.Need-mark-dirty-requires
 mark-dirty-requires c κs = (c .before .before .before .set-sides .ensures .is-record, refl)
-
-same-length : tie.Need-same-length
-same-length c = search needs
-
-same-length-2 : tie.Need-same-length-2
-same-length-2 c = search needs
 
 returns-5 : tie.Need-returns-5
 returns-5 c =
@@ -98,22 +86,6 @@ returns-5 c =
 pub resize-spec : {M : Type 1} → statement M
 resize-spec =
     tie.close
-    (tie.spec
-    slice-read-no-effect
-    slice-read-no-effect-2
-    no-effect-requires
-    returns
-    returns-2
-    returns-3
-    mul-n
-    cast-n
-    mul-n-2
-    slice-read-if4
-    cast-if4
-    returns-4
-    zero-requires
-    set-sides-requires
-    mark-dirty-requires
-    same-length
-    same-length-2
-    returns-5)
+    (tie.spec slice-read-no-effect slice-read-no-effect-2 (λ c κs. search needs) returns returns-2
+    returns-3 mul-n cast-n mul-n-2 slice-read-if4 cast-if4 returns-4 zero-requires
+    (λ c κs. search needs) mark-dirty-requires (λ c. search needs) (λ c. search needs) returns-5)

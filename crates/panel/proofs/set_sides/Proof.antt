@@ -13,11 +13,9 @@ slice-write-numbers c = omega (arith, record-length _ (c .pre))
 slice-write-numbers-2 : tie.Need-slice-write-numbers-2
 slice-write-numbers-2 c = simp length-set (omega (arith, record-length _ (c .pre)))
 
-same-length : tie.Need-same-length
-same-length c = search needs
-
 returns : tie.Need-returns
 returns c = sides-set _ (c .pre) _ _
 
 pub set-sides-spec : {M : Type 1} → statement M
-set-sides-spec = tie.close (tie.spec slice-write-numbers slice-write-numbers-2 same-length returns)
+set-sides-spec = tie.close
+    (tie.spec slice-write-numbers slice-write-numbers-2 (λ c. search needs) returns)

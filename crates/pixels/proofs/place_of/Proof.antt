@@ -5,23 +5,11 @@ use borrow.Author.Needs.{needs}
 use Rattle.pixels.proofs.place_of.Statement.{statement}
 use Rattle.pixels.proofs.place_of.Tie as tie
 
-common-refusal-requires : tie.Need-common-refusal-requires
-common-refusal-requires c κs = search needs
-
 returns : tie.Need-returns
 returns c = refused _ _ _ _ (c .before .common-refusal .ensures) (c .if1 .taken)
 
 target-of-requires : tie.Need-target-of-requires
 target-of-requires c κs = let q = lent _ _ _ _ (c .before .common-refusal .ensures) (c .if1 .left) in (q .is-record, q .ready .sound)
-
-enum-told : tie.Need-enum-told
-enum-told c = search needs
-
-enum-told-2 : tie.Need-enum-told-2
-enum-told-2 c = search needs
-
-enum-known-site : tie.Need-enum-known-site
-enum-known-site c = search needs
 
 returns-2 : tie.Need-returns-2
 returns-2 c = no-dc _ _ _ _ (c .before .before .before .before .common-refusal .ensures) (c .before .before .before .if1 .left) (c .before .before .target-of .ensures) (c .enum-told .given .1)
@@ -40,13 +28,5 @@ returns-4 c =
 pub place-of-spec : {M : Type 1} → statement M
 place-of-spec =
     tie.close
-    (tie.spec
-    common-refusal-requires
-    returns
-    target-of-requires
-    enum-told
-    enum-told-2
-    enum-known-site
-    returns-2
-    returns-3
-    returns-4)
+    (tie.spec (λ c κs. search needs) returns target-of-requires (λ c. search needs)
+    (λ c. search needs) (λ c. search needs) returns-2 returns-3 returns-4)

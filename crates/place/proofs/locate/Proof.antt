@@ -26,21 +26,6 @@ cast-n c = omega (arith, c .shared-slice-known2 .given countPlace)
 loop-holds : tie.Need-loop-holds Inv-loop μ-loop
 loop-holds c = (search needs, (record-count _ (c .before .before .pre .0), (record-length _ (c .before .before .pre .0), sought-first (c .before .before .args .numbers .now) (c .before .before .args .handle))))
 
-mul-p : tie.Need-mul-p Inv-loop μ-loop
-mul-p c = omega arith
-
-add-p : tie.Need-add-p Inv-loop μ-loop
-add-p c = omega arith
-
-mul-if1 : tie.Need-mul-if1 Inv-loop μ-loop
-mul-if1 c = omega arith
-
-shared-slice-read-if1 : tie.Need-shared-slice-read-if1 Inv-loop μ-loop
-shared-slice-read-if1 c = omega arith
-
-frame-requires : tie.Need-frame-requires Inv-loop μ-loop
-frame-requires c κs = omega arith
-
 returns : tie.Need-returns Inv-loop μ-loop
 returns c = let p = c .before .before .before .before .before .before .before in located-seen (p .args .numbers .now) (p .pre .0) (p .pre .1) (c .before .before .before .before .loop .i) (c .before .before .before .loop-test .taken) (c .before .before .before .before .loop .inv .1 .1 .1) (c .before .if1 .taken) (c .frame .ensures)
 
@@ -50,17 +35,8 @@ bytes-of-requires c κs = (omega arith, object-sound (c .before .before .before 
 add-start : tie.Need-add-start Inv-loop μ-loop
 add-start c = omega (arith, next-small (c .before .before .before .before .before .before .before .args .numbers .now) (c .before .before .before .before .before .before .before .pre .0) (c .before .before .before .before .before .before .before .pre .1) (c .before .before .before .before .loop .i) (c .before .before .before .loop-test .taken) (c .before .before .before .before .loop .inv .1 .1 .1) (c .bytes-of .ensures))
 
-add-i : tie.Need-add-i Inv-loop μ-loop
-add-i c = omega arith
-
-loop-less : tie.Need-loop-less Inv-loop μ-loop
-loop-less c = omega arith
-
 loop-again : tie.Need-loop-again Inv-loop μ-loop
 loop-again c = let p = c .before .before .before .before .before .before .before in (search needs, (search needs, (search needs, sought-next (p .args .numbers .now) (p .pre .0) (p .pre .1) (c .before .before .before .before .loop .i) (c .before .before .before .loop-test .taken) (c .before .before .before .before .loop .inv .1 .1 .1) (c .bytes-of .ensures) (c .before .if1 .left))))
-
-untabled-requires : tie.Need-untabled-requires Inv-loop μ-loop
-untabled-requires c κs = search needs
 
 returns-2 : tie.Need-returns-2 Inv-loop μ-loop
 returns-2 c = end-seen (c .before .before .before .before .before .args .numbers .now) (c .before .loop-test .left) (c .before .before .loop .inv .1 .1 .1) (c .untabled .ensures)
@@ -68,22 +44,7 @@ returns-2 c = end-seen (c .before .before .before .before .before .args .numbers
 pub locate-spec : {M : Type 1} → statement M
 locate-spec =
     tie.close
-    (tie.spec
-    Inv-loop
-    μ-loop
-    shared-slice-read-n
-    cast-n
-    loop-holds
-    mul-p
-    add-p
-    mul-if1
-    shared-slice-read-if1
-    frame-requires
-    returns
-    bytes-of-requires
-    add-start
-    add-i
-    loop-less
-    loop-again
-    untabled-requires
-    returns-2)
+    (tie.spec Inv-loop μ-loop shared-slice-read-n cast-n loop-holds (λ c. omega arith)
+    (λ c. omega arith) (λ c. omega arith) (λ c. omega arith) (λ c κs. omega arith) returns
+    bytes-of-requires add-start (λ c. omega arith) (λ c. omega arith) loop-again
+    (λ c κs. search needs) returns-2)

@@ -4,39 +4,6 @@ use borrow.Author.Needs.{needs}
 use Rattle.place.proofs.target_of.Statement.{statement}
 use Rattle.place.proofs.target_of.Tie as tie
 
-find-dc-requires : tie.Need-find-dc-requires
-find-dc-requires c κs = search needs
-
-enum-known-p : tie.Need-enum-known-p
-enum-known-p c = search needs
-
-enum-told : tie.Need-enum-told
-enum-told c = search needs
-
-where-is-requires : tie.Need-where-is-requires
-where-is-requires c κs = search needs
-
-enum-told-2 : tie.Need-enum-told-2
-enum-told-2 c = search needs
-
-enum-told-3 : tie.Need-enum-told-3
-enum-told-3 c = search needs
-
-enum-known-k : tie.Need-enum-known-k
-enum-known-k c = search needs
-
-where-is-requires-2 : tie.Need-where-is-requires-2
-where-is-requires-2 c κs = search needs
-
-enum-told-4 : tie.Need-enum-told-4
-enum-told-4 c = search needs
-
-enum-told-5 : tie.Need-enum-told-5
-enum-told-5 c = search needs
-
-enum-told-6 : tie.Need-enum-told-6
-enum-told-6 c = search needs
-
 returns : tie.Need-returns
 returns c =
     let e = c .before in
@@ -75,20 +42,7 @@ returns-5 c = no-dc _ _ (c .before .before .find-dc .ensures) (c .enum-told6 .gi
 pub target-of-spec : {M : Type 1} → statement M
 target-of-spec =
     tie.close
-    (tie.spec
-    find-dc-requires
-    enum-known-p
-    enum-told
-    where-is-requires
-    enum-told-2
-    enum-told-3
-    enum-known-k
-    where-is-requires-2
-    enum-told-4
-    enum-told-5
-    enum-told-6
-    returns
-    returns-2
-    returns-3
-    returns-4
-    returns-5)
+    (tie.spec (λ c κs. search needs) (λ c. search needs) (λ c. search needs) (λ c κs. search needs)
+    (λ c. search needs) (λ c. search needs) (λ c. search needs) (λ c κs. search needs)
+    (λ c. search needs) (λ c. search needs) (λ c. search needs) returns returns-2 returns-3
+    returns-4 returns-5)

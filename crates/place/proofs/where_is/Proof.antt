@@ -7,23 +7,11 @@ use borrow.Author.Needs.{needs}
 use Rattle.place.proofs.where_is.Statement.{statement}
 use Rattle.place.proofs.where_is.Tie as tie
 
-enum-told : tie.Need-enum-told
-enum-told c = search needs
-
 shared-slice-read-t7 : tie.Need-shared-slice-read-t7
 shared-slice-read-t7 c = omega (arith, record-length _ (c .before .before .before .before .pre .0))
 
 shared-slice-read-t9 : tie.Need-shared-slice-read-t9
 shared-slice-read-t9 c = omega (arith, record-length _ (c .before .before .before .before .before .pre .0))
-
-untabled-requires : tie.Need-untabled-requires
-untabled-requires c κs = search needs
-
-enum-known-id : tie.Need-enum-known-id
-enum-known-id c = search needs
-
-untabled-requires-2 : tie.Need-untabled-requires-2
-untabled-requires-2 c κs = search needs
 
 returns : tie.Need-returns
 returns c =
@@ -31,9 +19,6 @@ returns c =
     let a = i .before .before in
     let s = a .before .before .before in
     rw (c .untabled2 .ensures) (placed-stock _ (s .pre .1) (a .id .given .1) (i .if1 .taken))
-
-locate-requires : tie.Need-locate-requires
-locate-requires c κs = search needs
 
 returns-2 : tie.Need-returns-2
 returns-2 c =
@@ -51,14 +36,5 @@ returns-3 c =
 pub where-is-spec : {M : Type 1} → statement M
 where-is-spec =
     tie.close
-    (tie.spec
-    enum-told
-    shared-slice-read-t7
-    shared-slice-read-t9
-    untabled-requires
-    enum-known-id
-    untabled-requires-2
-    returns
-    locate-requires
-    returns-2
-    returns-3)
+    (tie.spec (λ c. search needs) shared-slice-read-t7 shared-slice-read-t9 (λ c κs. search needs)
+    (λ c. search needs) (λ c κs. search needs) returns (λ c κs. search needs) returns-2 returns-3)

@@ -21,27 +21,6 @@ abbrev μ-loop : tie.MeasureT-loop
 loop-holds : tie.Need-loop-holds Inv-loop μ-loop
 loop-holds c = let a = c .before .args in (paint-first (ropped (a .table) (a .pat) (λ _. 0) (a .mem .now)) (a .mem .now) (a .d), (refl, omega arith))
 
-add-word-at : tie.Need-add-word-at Inv-loop μ-loop
-add-word-at c = omega arith
-
-word-at-requires : tie.Need-word-at-requires Inv-loop μ-loop
-word-at-requires c κs = omega arith
-
-add-set-word : tie.Need-add-set-word Inv-loop μ-loop
-add-set-word c = omega arith
-
-apply-table-requires : tie.Need-apply-table-requires Inv-loop μ-loop
-apply-table-requires c κs = search needs
-
-set-word-requires : tie.Need-set-word-requires Inv-loop μ-loop
-set-word-requires c κs = omega arith
-
-add-k : tie.Need-add-k Inv-loop μ-loop
-add-k c = omega arith
-
-loop-less : tie.Need-loop-less Inv-loop μ-loop
-loop-less c = omega arith
-
 loop-again : tie.Need-loop-again Inv-loop μ-loop
 loop-again c =
     let stored = c .before .before .set-word in
@@ -55,9 +34,6 @@ loop-again c =
     let new : made .result ≡ v (a .d + l .k) = made .ensures ∙ ap (applied (a .table) (a .pat) 0) (read .ensures ∙ next-kept v (a .mem .now) (a .d) (l .k) room (l .inv .0)) in
     (stored .ensures ∙ paint-next v (a .mem .now) (a .d) (l .k) (made .result) room (l .inv .0) new, (stored .kept .0 ∙ l .inv .1 .0, omega (arith, c .before .before .before .before .before .before .before .loop-test .taken)))
 
-same-length : tie.Need-same-length Inv-loop μ-loop
-same-length c = search needs
-
 returns : tie.Need-returns Inv-loop μ-loop
 returns c =
     let l = c .before .loop in
@@ -67,17 +43,6 @@ returns c =
 pub combine-run-spec : {M : Type 1} → statement M
 combine-run-spec =
     tie.close
-    (tie.spec
-    Inv-loop
-    μ-loop
-    loop-holds
-    add-word-at
-    word-at-requires
-    add-set-word
-    apply-table-requires
-    set-word-requires
-    add-k
-    loop-less
-    loop-again
-    same-length
-    returns)
+    (tie.spec Inv-loop μ-loop loop-holds (λ c. omega arith) (λ c κs. omega arith) (λ c. omega arith)
+    (λ c κs. search needs) (λ c κs. omega arith) (λ c. omega arith) (λ c. omega arith) loop-again
+    (λ c. search needs) returns)

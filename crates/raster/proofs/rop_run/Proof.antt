@@ -8,26 +8,11 @@ use Rattle.raster.proofs.Plain.{pattern-ropped, invert-ropped}
 use Rattle.raster.proofs.rop_run.Statement.{statement}
 use Rattle.raster.proofs.rop_run.Tie as tie
 
-fill-run-requires : tie.Need-fill-run-requires
-fill-run-requires c κs = search needs
-
-invert-run-requires : tie.Need-invert-run-requires
-invert-run-requires c κs = search needs
-
-combine-run-requires : tie.Need-combine-run-requires
-combine-run-requires c κs = search needs
-
-same-length : tie.Need-same-length
-same-length c = search needs
-
 returns : tie.Need-returns
 returns c =
     let s = c .before .before .before .before .before .before in
     let a = s .args in
     c .before .before .fill-run .ensures ∙ pattern-ropped (a .table) (between (a .d) (a .d + a .n)) (a .pat) (λ _. 0) (a .mem .now) (c .before .before .before .before .if1 .taken) (omega (arith, s .fits .pat))
-
-same-length-2 : tie.Need-same-length-2
-same-length-2 c = search needs
 
 returns-2 : tie.Need-returns-2
 returns-2 c =
@@ -37,22 +22,9 @@ returns-2 c =
     ∙ invert-ropped (a .table) (between (a .d) (a .d + a .n)) (a .pat) (λ _. 0) (a .mem .now) (c .before .before .before .before .if2 .taken)
     (λ k. omega (arith, c .before .before .before .before .before .before .slice-known .given k))
 
-same-length-3 : tie.Need-same-length-3
-same-length-3 c = search needs
-
-returns-3 : tie.Need-returns-3
-returns-3 c = search needs
-
 pub rop-run-spec : {M : Type 1} → statement M
 rop-run-spec =
     tie.close
-    (tie.spec
-    fill-run-requires
-    invert-run-requires
-    combine-run-requires
-    same-length
-    returns
-    same-length-2
-    returns-2
-    same-length-3
-    returns-3)
+    (tie.spec (λ c κs. search needs) (λ c κs. search needs) (λ c κs. search needs)
+    (λ c. search needs) returns (λ c. search needs) returns-2 (λ c. search needs)
+    (λ c. search needs))

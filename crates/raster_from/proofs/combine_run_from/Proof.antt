@@ -21,33 +21,6 @@ abbrev μ-loop : tie.MeasureT-loop
 loop-holds : tie.Need-loop-holds Inv-loop μ-loop
 loop-holds c = let a = c .before .before .args in (paint-first (ropped (a .table) (a .pat) (λ i. word (a .src .now) (a .s + (i - a .d))) (a .dst .now)) (a .dst .now) (a .d), (refl, omega arith))
 
-add-word-at : tie.Need-add-word-at Inv-loop μ-loop
-add-word-at c = omega arith
-
-word-at-requires : tie.Need-word-at-requires Inv-loop μ-loop
-word-at-requires c κs = omega arith
-
-add-word-at-2 : tie.Need-add-word-at-2 Inv-loop μ-loop
-add-word-at-2 c = omega arith
-
-word-at-requires-2 : tie.Need-word-at-requires-2 Inv-loop μ-loop
-word-at-requires-2 c κs = omega arith
-
-add-set-word : tie.Need-add-set-word Inv-loop μ-loop
-add-set-word c = omega arith
-
-apply-table-requires : tie.Need-apply-table-requires Inv-loop μ-loop
-apply-table-requires c κs = search needs
-
-set-word-requires : tie.Need-set-word-requires Inv-loop μ-loop
-set-word-requires c κs = omega arith
-
-add-k : tie.Need-add-k Inv-loop μ-loop
-add-k c = omega arith
-
-loop-less : tie.Need-loop-less Inv-loop μ-loop
-loop-less c = omega arith
-
 loop-again : tie.Need-loop-again Inv-loop μ-loop
 loop-again c =
     let stored = c .before .before .set-word in
@@ -65,9 +38,6 @@ loop-again c =
     made .ensures ∙ rw (from .ensures, old .ensures, next-kept v (a .dst .now) (a .d) (l .k) room (l .inv .0)) (ap (λ (j : ℕ). applied (a .table) (a .pat) (word (a .src .now) j) (word (a .dst .now) (a .d + l .k))) here) in
     (stored .ensures ∙ paint-next v (a .dst .now) (a .d) (l .k) (made .result) room (l .inv .0) new, (stored .kept .0 ∙ l .inv .1 .0, omega (arith, test .taken)))
 
-same-length : tie.Need-same-length Inv-loop μ-loop
-same-length c = search needs
-
 returns : tie.Need-returns Inv-loop μ-loop
 returns c =
     let l = c .before .loop in
@@ -77,19 +47,6 @@ returns c =
 pub combine-run-from-spec : {M : Type 1} → statement M
 combine-run-from-spec =
     tie.close
-    (tie.spec
-    Inv-loop
-    μ-loop
-    loop-holds
-    add-word-at
-    word-at-requires
-    add-word-at-2
-    word-at-requires-2
-    add-set-word
-    apply-table-requires
-    set-word-requires
-    add-k
-    loop-less
-    loop-again
-    same-length
-    returns)
+    (tie.spec Inv-loop μ-loop loop-holds (λ c. omega arith) (λ c κs. omega arith) (λ c. omega arith)
+    (λ c κs. omega arith) (λ c. omega arith) (λ c κs. search needs) (λ c κs. omega arith)
+    (λ c. omega arith) (λ c. omega arith) loop-again (λ c. search needs) returns)

@@ -8,21 +8,6 @@ use Rattle.rop3.specs.Rop3.{applied}
 use Rattle.raster_from.proofs.combine_run_within.Statement.{statement}
 use Rattle.raster_from.proofs.combine_run_within.Tie as tie
 
-slice-aggregate-copy-run : tie.Need-slice-aggregate-copy-run
-slice-aggregate-copy-run c = search needs
-
-copy-run-requires : tie.Need-copy-run-requires
-copy-run-requires c κs = search needs
-
-slice-aggregate-combine-run-from : tie.Need-slice-aggregate-combine-run-from
-slice-aggregate-combine-run-from c = search needs
-
-combine-run-from-requires : tie.Need-combine-run-from-requires
-combine-run-from-requires c κs = search needs
-
-same-length : tie.Need-same-length
-same-length c = search needs
-
 returns : tie.Need-returns
 returns c =
     let a = c .before .before .before .before .before .before .before .before .before .before .args in
@@ -33,10 +18,5 @@ returns c =
 pub combine-run-within-spec : {M : Type 1} → statement M
 combine-run-within-spec =
     tie.close
-    (tie.spec
-    slice-aggregate-copy-run
-    copy-run-requires
-    slice-aggregate-combine-run-from
-    combine-run-from-requires
-    same-length
-    returns)
+    (tie.spec (λ c. search needs) (λ c κs. search needs) (λ c. search needs) (λ c κs. search needs)
+    (λ c. search needs) returns)

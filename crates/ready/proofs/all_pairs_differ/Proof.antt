@@ -37,12 +37,6 @@ is-absent-requires c κs = (c .before .before .before .before .pre, c .loop-test
 returns : tie.Need-returns Inv-loop μ-loop
 returns c = some-fails _ _ (c .before .before .loop-test .taken) (sym (c .before .is-absent .ensures) ∙ not-true _ (c .if1 .taken))
 
-add-k : tie.Need-add-k Inv-loop μ-loop
-add-k c = omega arith
-
-loop-less : tie.Need-loop-less Inv-loop μ-loop
-loop-less c = omega arith
-
 loop-again : tie.Need-loop-again Inv-loop μ-loop
 loop-again c = (search needs, (search needs, distinct-more (view (c .before .before .before .before .before .before .args .numbers .now) .objects) (c .before .before .before .loop .k) (c .before .before .before .loop .inv .1 .1) (sym (c .before .is-absent .ensures) ∙ not-false _ (c .if1 .left))))
 
@@ -52,15 +46,5 @@ returns-2 c = let e : c .before .loop .k ≡ at (c .before .before .before .befo
 pub all-pairs-differ-spec : {M : Type 1} → statement M
 all-pairs-differ-spec =
     tie.close
-    (tie.spec
-    Inv-loop
-    μ-loop
-    shared-slice-read-n
-    cast-n
-    loop-holds
-    is-absent-requires
-    returns
-    add-k
-    loop-less
-    loop-again
-    returns-2)
+    (tie.spec Inv-loop μ-loop shared-slice-read-n cast-n loop-holds is-absent-requires returns
+    (λ c. omega arith) (λ c. omega arith) loop-again returns-2)

@@ -12,9 +12,6 @@ use borrow.Author.Needs.{needs}
 use Rattle.ready.proofs.common_refusal.Statement.{statement}
 use Rattle.ready.proofs.common_refusal.Tie as tie
 
-is-sound-requires : tie.Need-is-sound-requires
-is-sound-requires c κs = search needs
-
 returns : tie.Need-returns
 returns c = no-sound-record _ _ _ (sym (c .before .is-sound .ensures) ∙ not-true _ (c .if1 .taken))
 
@@ -64,13 +61,5 @@ returns-4 c =
 pub common-refusal-spec : {M : Type 1} → statement M
 common-refusal-spec =
     tie.close
-    (tie.spec
-    is-sound-requires
-    returns
-    shared-slice-read-if2
-    cast-if2
-    returns-2
-    shared-slice-read-if3
-    cast-if3
-    returns-3
-    returns-4)
+    (tie.spec (λ c κs. search needs) returns shared-slice-read-if2 cast-if2 returns-2
+    shared-slice-read-if3 cast-if3 returns-3 returns-4)

@@ -10,8 +10,6 @@ returns c = sym (c .before .before .pre .1 (c .if1 .taken))
 all-pairs-differ-requires : tie.Need-all-pairs-differ-requires
 all-pairs-differ-requires c κs = c .before .before .pre .0
 
-returns-2 : tie.Need-returns-2
-returns-2 c = search needs
-
 pub handles-differ-spec : {M : Type 1} → statement M
-handles-differ-spec = tie.close (tie.spec returns all-pairs-differ-requires returns-2)
+handles-differ-spec = tie.close
+    (tie.spec returns all-pairs-differ-requires (λ c. search needs))

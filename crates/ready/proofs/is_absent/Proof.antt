@@ -36,26 +36,8 @@ shared-slice-read-h c = omega (arith, slot-room _ (c .before .pre .0) _ (c .befo
 loop-holds : tie.Need-loop-holds Inv-loop μ-loop
 loop-holds c = (search needs, (slot-room _ (c .before .pre .0) _ (c .before .pre .1), refl))
 
-mul-if1 : tie.Need-mul-if1 Inv-loop μ-loop
-mul-if1 c = omega arith
-
-add-if1 : tie.Need-add-if1 Inv-loop μ-loop
-add-if1 c = omega arith
-
-mul-if1-2 : tie.Need-mul-if1-2 Inv-loop μ-loop
-mul-if1-2 c = omega arith
-
-shared-slice-read-if1 : tie.Need-shared-slice-read-if1 Inv-loop μ-loop
-shared-slice-read-if1 c = omega arith
-
 returns : tie.Need-returns Inv-loop μ-loop
 returns c = same-seen _ (c .before .before .before .before .before .pre .0) _ _ (c .before .before .loop-test .taken) (c .before .before .before .before .before .pre .1) (c .if1 .taken)
-
-add-j : tie.Need-add-j Inv-loop μ-loop
-add-j c = omega arith
-
-loop-less : tie.Need-loop-less Inv-loop μ-loop
-loop-less c = omega arith
 
 loop-again : tie.Need-loop-again Inv-loop μ-loop
 loop-again c = (search needs, (search needs, differs-seen _ (c .before .before .before .before .before .pre .0) _ _ (c .before .before .loop-test .taken) (c .before .before .before .before .before .pre .1) (c .before .before .before .loop .inv .1 .1) (c .if1 .left)))
@@ -66,20 +48,6 @@ returns-2 c = let e : c .before .loop .j ≡ c .before .before .before .args .k 
 pub is-absent-spec : {M : Type 1} → statement M
 is-absent-spec =
     tie.close
-    (tie.spec
-    Inv-loop
-    μ-loop
-    mul-h
-    add-h
-    mul-h-2
-    shared-slice-read-h
-    loop-holds
-    mul-if1
-    add-if1
-    mul-if1-2
-    shared-slice-read-if1
-    returns
-    add-j
-    loop-less
-    loop-again
-    returns-2)
+    (tie.spec Inv-loop μ-loop mul-h add-h mul-h-2 shared-slice-read-h loop-holds (λ c. omega arith)
+    (λ c. omega arith) (λ c. omega arith) (λ c. omega arith) returns (λ c. omega arith)
+    (λ c. omega arith) loop-again returns-2)

@@ -21,9 +21,6 @@ passed e f = sym e ∙ not-false _ f
 failed : {t u : Bool} → t ≡ u → not t ≡ true → u ≡ true → ⊥
 failed e f g = true≢false (sym g ∙ sym e ∙ not-true _ f)
 
-is-head-requires : tie.Need-is-head-requires
-is-head-requires c κs = search needs
-
 returns : tie.Need-returns
 returns c = unsound-record _ (λ r s. no-head (c .before .before .before .args .numbers .now) (sym (c .before .is-head .ensures) ∙ not-true _ (c .if1 .taken)) r)
 
@@ -56,9 +53,6 @@ shared-slice-read-is-side c =
     let s = a .before .before in
     omega (arith, head-long (s .args .numbers .now) (passed (a .is-head .ensures) (i .if1 .left)))
 
-is-side-requires : tie.Need-is-side-requires
-is-side-requires c κs = search needs
-
 returns-4 : tie.Need-returns-4
 returns-4 c =
     let i = c .before in
@@ -71,9 +65,6 @@ shared-slice-read-is-side-2 c =
     let a = i .before in
     let s = a .before .before in
     omega (arith, head-long (s .args .numbers .now) (passed (a .is-head .ensures) (i .if1 .left)))
-
-is-side-requires-2 : tie.Need-is-side-requires-2
-is-side-requires-2 c κs = search needs
 
 returns-5 : tie.Need-returns-5
 returns-5 c =
@@ -184,30 +175,8 @@ returns-9 c =
 pub is-sound-spec : {M : Type 1} → statement M
 is-sound-spec =
     tie.close
-    (tie.spec
-    is-head-requires
-    returns
-    shared-slice-read-panel-len
-    cast-panel-len
-    returns-2
-    shared-slice-read-store-len
-    cast-store-len
-    returns-3
-    shared-slice-read-is-side
-    is-side-requires
-    returns-4
-    shared-slice-read-is-side-2
-    is-side-requires-2
-    returns-5
-    shared-slice-read-w
-    cast-w
-    shared-slice-read-h
-    cast-h
-    mul-if6
-    mul-if6-2
-    returns-6
-    scan-slots-requires
-    returns-7
-    handles-differ-requires
-    returns-8
-    returns-9)
+    (tie.spec (λ c κs. search needs) returns shared-slice-read-panel-len cast-panel-len returns-2
+    shared-slice-read-store-len cast-store-len returns-3 shared-slice-read-is-side
+    (λ c κs. search needs) returns-4 shared-slice-read-is-side-2 (λ c κs. search needs) returns-5
+    shared-slice-read-w cast-w shared-slice-read-h cast-h mul-if6 mul-if6-2 returns-6
+    scan-slots-requires returns-7 handles-differ-requires returns-8 returns-9)

@@ -12,9 +12,6 @@ use borrow.Author.Needs.{needs}
 use Rattle.ready.proofs.panel_refusal.Statement.{statement}
 use Rattle.ready.proofs.panel_refusal.Tie as tie
 
-is-sound-requires : tie.Need-is-sound-requires
-is-sound-requires c κs = search needs
-
 returns : tie.Need-returns
 returns c = no-sound-record _ _ _ (sym (c .before .is-sound .ensures) ∙ not-true _ (c .if1 .taken))
 
@@ -45,4 +42,4 @@ returns-3 c =
 pub panel-refusal-spec : {M : Type 1} → statement M
 panel-refusal-spec =
     tie.close
-    (tie.spec is-sound-requires returns shared-slice-read-if2 cast-if2 returns-2 returns-3)
+    (tie.spec (λ c κs. search needs) returns shared-slice-read-if2 cast-if2 returns-2 returns-3)

@@ -25,9 +25,6 @@ abbrev μ-loop : tie.MeasureT-loop
 slice-read-last : tie.Need-slice-read-last Inv-loop μ-loop
 slice-read-last c = omega (arith, record-length _ (c .before .pre .0))
 
-sub-last : tie.Need-sub-last Inv-loop μ-loop
-sub-last c = omega arith
-
 cast-end : tie.Need-cast-end Inv-loop μ-loop
 cast-end c = omega (arith, record-count _ (c .before .pre .0))
 
@@ -50,27 +47,6 @@ loop-holds c =
       (refl, (last-room (e .args .numbers .now) (e .pre .0) (e .args .i) (e .pre .1), (record-length _ (e .pre .0), (omega arith, omega arith)))),
     )
 
-add-numbers : tie.Need-add-numbers Inv-loop μ-loop
-add-numbers c = omega arith
-
-mul-numbers : tie.Need-mul-numbers Inv-loop μ-loop
-mul-numbers c = omega arith
-
-slice-read-numbers : tie.Need-slice-read-numbers Inv-loop μ-loop
-slice-read-numbers c = omega arith
-
-mul-numbers-2 : tie.Need-mul-numbers-2 Inv-loop μ-loop
-mul-numbers-2 c = omega arith
-
-slice-write-numbers : tie.Need-slice-write-numbers Inv-loop μ-loop
-slice-write-numbers c = omega arith
-
-add-k-2 : tie.Need-add-k-2 Inv-loop μ-loop
-add-k-2 c = omega arith
-
-loop-less : tie.Need-loop-less Inv-loop μ-loop
-loop-less c = omega arith
-
 loop-again : tie.Need-loop-again Inv-loop μ-loop
 loop-again c =
     let l = c .before .before .loop in
@@ -78,12 +54,6 @@ loop-again c =
       moved-more (a .numbers .now) (slotPlace (a .i)) slotSize 0 (l .numbers) (l .k) (omega arith) (omega arith) (l .inv .0),
       (simp length-set (l .inv .1 .0), (l .inv .1 .1 .0, (l .inv .1 .1 .1 .0, (omega arith, omega arith)))),
     )
-
-slice-write-numbers-2 : tie.Need-slice-write-numbers-2 Inv-loop μ-loop
-slice-write-numbers-2 c = omega arith
-
-same-length : tie.Need-same-length Inv-loop μ-loop
-same-length c = search needs
 
 returns : tie.Need-returns Inv-loop μ-loop
 returns c =
@@ -95,25 +65,7 @@ returns c =
 pub remove-slot-spec : {M : Type 1} → statement M
 remove-slot-spec =
     tie.close
-    (tie.spec
-    Inv-loop
-    μ-loop
-    slice-read-last
-    sub-last
-    cast-end
-    mul-end
-    add-end
-    mul-k
-    add-k
-    loop-holds
-    add-numbers
-    mul-numbers
-    slice-read-numbers
-    mul-numbers-2
-    slice-write-numbers
-    add-k-2
-    loop-less
-    loop-again
-    slice-write-numbers-2
-    same-length
-    returns)
+    (tie.spec Inv-loop μ-loop slice-read-last (λ c. omega arith) cast-end mul-end add-end mul-k
+    add-k loop-holds (λ c. omega arith) (λ c. omega arith) (λ c. omega arith) (λ c. omega arith)
+    (λ c. omega arith) (λ c. omega arith) (λ c. omega arith) loop-again (λ c. omega arith)
+    (λ c. search needs) returns)

@@ -39,15 +39,6 @@ close-up-requires c κs =
     (c .before .before .before .before .before .start-of .ensures .0) (c .before .bytes-of .ensures) (c .before .before .before .start-of2 .ensures .0)
     (e .pre .1 .0) (e .args .store .now) (e .pre .1 .1 .1)
 
-remove-slot-requires : tie.Need-remove-slot-requires
-remove-slot-requires c κs = search needs
-
-same-length : tie.Need-same-length
-same-length c = search needs
-
-same-length-2 : tie.Need-same-length-2
-same-length-2 c = search needs
-
 returns : tie.Need-returns
 returns c =
     let m = c .before .before .before .before .before .before in
@@ -62,16 +53,6 @@ returns c =
 pub take-out-spec : {M : Type 1} → statement M
 take-out-spec =
     tie.close
-    (tie.spec
-    slice-read-count
-    cast-count
-    start-of-requires
-    start-of-requires-2
-    mul-bytes-of
-    add-bytes-of
-    bytes-of-requires
-    close-up-requires
-    remove-slot-requires
-    same-length
-    same-length-2
-    returns)
+    (tie.spec slice-read-count cast-count start-of-requires start-of-requires-2 mul-bytes-of
+    add-bytes-of bytes-of-requires close-up-requires (λ c κs. search needs) (λ c. search needs)
+    (λ c. search needs) returns)

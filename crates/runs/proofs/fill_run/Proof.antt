@@ -16,50 +16,17 @@ Inv-loop mem₀ d n v lo hi k₀ mem k = (mem ≡ painted (between d (d + k)) (�
 abbrev μ-loop : tie.MeasureT-loop
 μ-loop mem₀ d n v lo hi k₀ mem k = n - k
 
-cast-lo : tie.Need-cast-lo Inv-loop μ-loop
-cast-lo c = search needs
-
-cast-hi : tie.Need-cast-hi Inv-loop μ-loop
-cast-hi c = search needs
-
 loop-holds : tie.Need-loop-holds Inv-loop μ-loop
 loop-holds c = (paint-first (λ _. c .args .v) (c .args .mem .now) (c .args .d), (refl, omega arith))
 
-add-mem : tie.Need-add-mem Inv-loop μ-loop
-add-mem c = omega arith
-
-mul-mem : tie.Need-mul-mem Inv-loop μ-loop
-mul-mem c = omega arith
-
-slice-write-mem : tie.Need-slice-write-mem Inv-loop μ-loop
-slice-write-mem c = omega arith
-
-add-mem-2 : tie.Need-add-mem-2 Inv-loop μ-loop
-add-mem-2 c = omega arith
-
-mul-mem-2 : tie.Need-mul-mem-2 Inv-loop μ-loop
-mul-mem-2 c = omega arith
-
-add-mem-3 : tie.Need-add-mem-3 Inv-loop μ-loop
-add-mem-3 c = omega arith
-
 slice-write-mem-2 : tie.Need-slice-write-mem-2 Inv-loop μ-loop
 slice-write-mem-2 c = simp length-set (omega arith)
-
-add-k : tie.Need-add-k Inv-loop μ-loop
-add-k c = omega arith
-
-loop-less : tie.Need-loop-less Inv-loop μ-loop
-loop-less c = omega arith
 
 loop-again : tie.Need-loop-again Inv-loop μ-loop
 loop-again c =
     let l = c .before .loop in
     let a = c .before .before .args in
     (paint-next (λ _. a .v) (a .mem .now) (a .d) (l .k) (a .v) (omega arith) (l .inv .0) refl, (simp length-set (l .inv .1 .0), omega arith))
-
-same-length : tie.Need-same-length Inv-loop μ-loop
-same-length c = search needs
 
 returns : tie.Need-returns Inv-loop μ-loop
 returns c =
@@ -70,21 +37,6 @@ returns c =
 pub fill-run-spec : {M : Type 1} → statement M
 fill-run-spec =
     tie.close
-    (tie.spec
-    Inv-loop
-    μ-loop
-    cast-lo
-    cast-hi
-    loop-holds
-    add-mem
-    mul-mem
-    slice-write-mem
-    add-mem-2
-    mul-mem-2
-    add-mem-3
-    slice-write-mem-2
-    add-k
-    loop-less
-    loop-again
-    same-length
-    returns)
+    (tie.spec Inv-loop μ-loop (λ c. search needs) (λ c. search needs) loop-holds (λ c. omega arith)
+    (λ c. omega arith) (λ c. omega arith) (λ c. omega arith) (λ c. omega arith) (λ c. omega arith)
+    slice-write-mem-2 (λ c. omega arith) (λ c. omega arith) loop-again (λ c. search needs) returns)

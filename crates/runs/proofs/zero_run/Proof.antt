@@ -16,35 +16,14 @@ Inv-loop mem₀ d n k₀ k-end mem k = (mem ≡ written (between (2 * d) (2 * d 
 abbrev μ-loop : tie.MeasureT-loop
 μ-loop mem₀ d n k₀ k-end mem k = 2 * n - k
 
-mul-k-end : tie.Need-mul-k-end Inv-loop μ-loop
-mul-k-end c = omega arith
-
 loop-holds : tie.Need-loop-holds Inv-loop μ-loop
 loop-holds c = (write-first (λ _. 0) (c .args .mem .now) (2 * c .args .d), (refl, omega arith))
-
-mul-mem : tie.Need-mul-mem Inv-loop μ-loop
-mul-mem c = omega arith
-
-add-mem : tie.Need-add-mem Inv-loop μ-loop
-add-mem c = omega arith
-
-slice-write-mem : tie.Need-slice-write-mem Inv-loop μ-loop
-slice-write-mem c = omega arith
-
-add-k : tie.Need-add-k Inv-loop μ-loop
-add-k c = omega arith
-
-loop-less : tie.Need-loop-less Inv-loop μ-loop
-loop-less c = omega arith
 
 loop-again : tie.Need-loop-again Inv-loop μ-loop
 loop-again c =
     let l = c .before .loop in
     let a = c .before .before .args in
     (write-next (λ _. 0) (a .mem .now) (2 * a .d) (l .k) 0 (omega arith) (l .inv .0) refl, (simp length-set (l .inv .1 .0), omega arith))
-
-same-length : tie.Need-same-length Inv-loop μ-loop
-same-length c = search needs
 
 returns : tie.Need-returns Inv-loop μ-loop
 returns c =
@@ -56,16 +35,5 @@ returns c =
 pub zero-run-spec : {M : Type 1} → statement M
 zero-run-spec =
     tie.close
-    (tie.spec
-    Inv-loop
-    μ-loop
-    mul-k-end
-    loop-holds
-    mul-mem
-    add-mem
-    slice-write-mem
-    add-k
-    loop-less
-    loop-again
-    same-length
-    returns)
+    (tie.spec Inv-loop μ-loop (λ c. omega arith) loop-holds (λ c. omega arith) (λ c. omega arith)
+    (λ c. omega arith) (λ c. omega arith) (λ c. omega arith) loop-again (λ c. search needs) returns)

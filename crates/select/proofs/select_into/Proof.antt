@@ -7,29 +7,8 @@ use borrow.Author.Needs.{needs}
 use Rattle.select.proofs.select_into.Statement.{statement}
 use Rattle.select.proofs.select_into.Tie as tie
 
-find-kind-requires : tie.Need-find-kind-requires
-find-kind-requires c κs = search needs
-
-enum-told : tie.Need-enum-told
-enum-told c = search needs
-
-same-length : tie.Need-same-length
-same-length c = search needs
-
 returns : tie.Need-returns
 returns c = λ ms. acceptance-same (c .before .before .before .before .before .pre .is-record) refl (select-other _ _ _ (c .before .before .find-kind .ensures) (c .enum-told .given .1))
-
-find-dc-requires : tie.Need-find-dc-requires
-find-dc-requires c κs = search needs
-
-enum-known-p : tie.Need-enum-known-p
-enum-known-p c = search needs
-
-selected-requires : tie.Need-selected-requires
-selected-requires c κs = search needs
-
-select-in-requires : tie.Need-select-in-requires
-select-in-requires c κs = search needs
 
 update-dc-requires : tie.Need-update-dc-requires
 update-dc-requires c κs =
@@ -37,12 +16,6 @@ update-dc-requires c κs =
     let f = p .before .before in
     let s = f .before .before .before .before .before .before in
     (s .pre .is-record, has-dc (f .find-dc .ensures) (p .p .given .1))
-
-enum-told-2 : tie.Need-enum-told-2
-enum-told-2 c = search needs
-
-same-length-2 : tie.Need-same-length-2
-same-length-2 c = search needs
 
 returns-2 : tie.Need-returns-2
 returns-2 c =
@@ -55,9 +28,6 @@ returns-2 c =
     let d = m .before in
     λ ms. acceptance-record-only refl (select-tied _ _ _ (d .find-kind .ensures) (m .match .keys2) (sym (f .find-dc .ensures) ∙ p .p .given .1) (b .selected .ensures) (a .select-in .ensures)) (s .update-dc .ensures)
 
-same-length-3 : tie.Need-same-length-3
-same-length-3 c = search needs
-
 returns-3 : tie.Need-returns-3
 returns-3 c =
     let f = c .before .before in
@@ -69,18 +39,7 @@ returns-3 c =
 pub select-into-spec : {M : Type 1} → statement M
 select-into-spec =
     tie.close
-    (tie.spec
-    find-kind-requires
-    enum-told
-    same-length
-    returns
-    find-dc-requires
-    enum-known-p
-    selected-requires
-    select-in-requires
-    update-dc-requires
-    enum-told-2
-    same-length-2
-    returns-2
-    same-length-3
+    (tie.spec (λ c κs. search needs) (λ c. search needs) (λ c. search needs) returns
+    (λ c κs. search needs) (λ c. search needs) (λ c κs. search needs) (λ c κs. search needs)
+    update-dc-requires (λ c. search needs) (λ c. search needs) returns-2 (λ c. search needs)
     returns-3)

@@ -3,27 +3,6 @@ use borrow.Author.Needs.{needs}
 use Rattle.select.proofs.selected.Statement.{statement}
 use Rattle.select.proofs.selected.Tie as tie
 
-enum-told : tie.Need-enum-told
-enum-told c = search needs
-
-enum-told-2 : tie.Need-enum-told-2
-enum-told-2 c = search needs
-
-enum-known-s : tie.Need-enum-known-s
-enum-known-s c = search needs
-
-enum-told-3 : tie.Need-enum-told-3
-enum-told-3 c = search needs
-
-enum-told-4 : tie.Need-enum-told-4
-enum-told-4 c = search needs
-
-enum-told-5 : tie.Need-enum-told-5
-enum-told-5 c = search needs
-
-enum-told-6 : tie.Need-enum-told-6
-enum-told-6 c = search needs
-
 returns : tie.Need-returns
 returns c = rw (c .before .before .enum-told .given .1, c .enum-told2 .given .1)
 
@@ -45,17 +24,6 @@ returns-6 c = rw (c .enum-told6 .given .1)
 pub selected-spec : {M : Type 1} → statement M
 selected-spec =
     tie.close
-    (tie.spec
-    enum-told
-    enum-told-2
-    enum-known-s
-    enum-told-3
-    enum-told-4
-    enum-told-5
-    enum-told-6
-    returns
-    returns-2
-    returns-3
-    returns-4
-    returns-5
-    returns-6)
+    (tie.spec (λ c. search needs) (λ c. search needs) (λ c. search needs) (λ c. search needs)
+    (λ c. search needs) (λ c. search needs) (λ c. search needs) returns returns-2 returns-3
+    returns-4 returns-5 returns-6)

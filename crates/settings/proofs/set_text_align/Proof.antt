@@ -8,27 +8,12 @@ use borrow.Author.Needs.{needs}
 use Rattle.settings.proofs.set_text_align.Statement.{statement}
 use Rattle.settings.proofs.set_text_align.Tie as tie
 
-find-dc-requires : tie.Need-find-dc-requires
-find-dc-requires c κs = search needs
-
-enum-known-p : tie.Need-enum-known-p
-enum-known-p c = search needs
-
-with-text-align-requires : tie.Need-with-text-align-requires
-with-text-align-requires c κs = search needs
-
 update-dc-requires : tie.Need-update-dc-requires
 update-dc-requires c κs =
     let p = c .before .before .before .before in
     let f = p .before .before in
     let s = f .before .before .before in
     (s .pre .is-record, has-dc (f .find-dc .ensures) (p .p .given .1))
-
-enum-told : tie.Need-enum-told
-enum-told c = search needs
-
-same-length : tie.Need-same-length
-same-length c = search needs
 
 returns : tie.Need-returns
 returns c =
@@ -38,22 +23,11 @@ returns c =
     let f = p .before .before in
     λ ms. acceptance-record-only refl (set-in-dc _ _ _ _ (sym (f .find-dc .ensures) ∙ p .p .given .1) (ap answered (w .with-text-align .ensures .0)) (w .with-text-align .ensures .1)) (s .update-dc .ensures)
 
-same-length-2 : tie.Need-same-length-2
-same-length-2 c = search needs
-
 returns-2 : tie.Need-returns-2
 returns-2 c = λ ms. refusal (c .before .before .before .before .before .pre .is-record) (set-no-dc _ _ _ _ (sym (c .before .before .find-dc .ensures) ∙ c .enum-told .given .1))
 
 pub set-text-align-spec : {M : Type 1} → statement M
 set-text-align-spec =
     tie.close
-    (tie.spec
-    find-dc-requires
-    enum-known-p
-    with-text-align-requires
-    update-dc-requires
-    enum-told
-    same-length
-    returns
-    same-length-2
-    returns-2)
+    (tie.spec (λ c κs. search needs) (λ c. search needs) (λ c κs. search needs) update-dc-requires
+    (λ c. search needs) (λ c. search needs) returns (λ c. search needs) returns-2)

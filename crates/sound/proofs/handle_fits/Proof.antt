@@ -11,11 +11,9 @@ returns c = given-fits _ (c .before .if1 .taken) (c .if2 .taken)
 returns-2 : tie.Need-returns-2
 returns-2 c = simp (eq-eqb _ _ (c .if3 .taken))
 
-is-stock-handle-requires : tie.Need-is-stock-handle-requires
-is-stock-handle-requires c κs = search needs
-
 returns-3 : tie.Need-returns-3
 returns-3 c = simp (ne-eqb _ _ (c .before .if3 .left), c .is-stock-handle .ensures)
 
 pub handle-fits-spec : {M : Type 1} → statement M
-handle-fits-spec = tie.close (tie.spec returns returns-2 is-stock-handle-requires returns-3)
+handle-fits-spec = tie.close
+    (tie.spec returns returns-2 (λ c κs. search needs) returns-3)

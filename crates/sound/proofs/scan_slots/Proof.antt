@@ -28,35 +28,11 @@ cast-n c = omega (arith, c .shared-slice-known2 .given countPlace)
 loop-holds : tie.Need-loop-holds Inv-loop μ-loop
 loop-holds c = (omega arith, (c .before .before .pre .1, (c .before .before .pre .0, none-passed (c .before .before .args .numbers .now))))
 
-mul-p : tie.Need-mul-p Inv-loop μ-loop
-mul-p c = omega arith
-
-add-p : tie.Need-add-p Inv-loop μ-loop
-add-p c = omega arith
-
-add-e : tie.Need-add-e Inv-loop μ-loop
-add-e c = omega arith
-
-mul-is-slot : tie.Need-mul-is-slot Inv-loop μ-loop
-mul-is-slot c = omega arith
-
-sub-is-slot : tie.Need-sub-is-slot Inv-loop μ-loop
-sub-is-slot c = omega arith
-
-part-is-slot-start : tie.Need-part-is-slot-start Inv-loop μ-loop
-part-is-slot-start c = omega arith
-
-part-is-slot-end : tie.Need-part-is-slot-end Inv-loop μ-loop
-part-is-slot-end c = omega arith
-
 is-slot-requires : tie.Need-is-slot-requires Inv-loop μ-loop
 is-slot-requires c κs =
     let l = c .before .before in
     let s = l .before .before .before in
     omega (arith, lent-long (now (s .args .numbers)) (l .loop .i) (s .pre .0) (omega arith))
-
-unfit-requires : tie.Need-unfit-requires Inv-loop μ-loop
-unfit-requires c κs = search needs
 
 returns : tie.Need-returns Inv-loop μ-loop
 returns c =
@@ -67,18 +43,6 @@ returns c =
     let s = b .before .before .before in
     nothing-passed (s .args .numbers .now) (c .unfit .ensures) (no-slot (s .args .numbers .now) (s .pre .1) (b .loop .i) (l .loop-test .taken) (sym (a .is-slot .ensures) ∙ not-true _ (i .if1 .taken)))
 
-mul-handle-fits : tie.Need-mul-handle-fits Inv-loop μ-loop
-mul-handle-fits c = omega arith
-
-shared-slice-read-handle-fits : tie.Need-shared-slice-read-handle-fits Inv-loop μ-loop
-shared-slice-read-handle-fits c = omega arith
-
-handle-fits-requires : tie.Need-handle-fits-requires Inv-loop μ-loop
-handle-fits-requires c κs = search needs
-
-unfit-requires-2 : tie.Need-unfit-requires-2 Inv-loop μ-loop
-unfit-requires-2 c κs = search needs
-
 returns-2 : tie.Need-returns-2 Inv-loop μ-loop
 returns-2 c =
     let i = c .before in
@@ -87,12 +51,6 @@ returns-2 c =
     let a = l .before in
     let s = a .before .before .before in
     nothing-passed (s .args .numbers .now) (c .unfit2 .ensures) (handle-unfit (s .args .numbers .now) (s .pre .1) (a .loop .i) (l .loop-test .taken) (sym (h .handle-fits .ensures) ∙ not-true _ (i .if2 .taken)))
-
-object-fits-requires : tie.Need-object-fits-requires Inv-loop μ-loop
-object-fits-requires c κs = omega arith
-
-unfit-requires-3 : tie.Need-unfit-requires-3 Inv-loop μ-loop
-unfit-requires-3 c κs = search needs
 
 returns-3 : tie.Need-returns-3 Inv-loop μ-loop
 returns-3 c =
@@ -117,27 +75,6 @@ add-end c =
     let s = a .before .before .before in
     omega (arith, a .loop .inv .1 .1 .1 .small, bytes-few (s .args .numbers .now) (s .pre .1) (a .loop .i) (l .loop-test .taken) (sym (o .object-fits .ensures) ∙ not-false _ (i .if3 .left)) (c .bytes-of .ensures))
 
-mul-goes-on : tie.Need-mul-goes-on Inv-loop μ-loop
-mul-goes-on c = omega arith
-
-shared-slice-read-goes-on : tie.Need-shared-slice-read-goes-on Inv-loop μ-loop
-shared-slice-read-goes-on c = omega arith
-
-goes-on-requires : tie.Need-goes-on-requires Inv-loop μ-loop
-goes-on-requires c κs = search needs
-
-mul-last : tie.Need-mul-last Inv-loop μ-loop
-mul-last c = omega arith
-
-shared-slice-read-last : tie.Need-shared-slice-read-last Inv-loop μ-loop
-shared-slice-read-last c = omega arith
-
-add-i : tie.Need-add-i Inv-loop μ-loop
-add-i c = omega arith
-
-loop-less : tie.Need-loop-less Inv-loop μ-loop
-loop-less c = omega arith
-
 loop-again : tie.Need-loop-again Inv-loop μ-loop
 loop-again c =
     let g = c .before in
@@ -159,38 +96,10 @@ returns-4 c = all-passed (c .before .before .before .before .args .numbers .now)
 pub scan-slots-spec : {M : Type 1} → statement M
 scan-slots-spec =
     tie.close
-    (tie.spec
-    Inv-loop
-    μ-loop
-    shared-slice-read-n
-    cast-n
-    loop-holds
-    mul-p
-    add-p
-    add-e
-    mul-is-slot
-    sub-is-slot
-    part-is-slot-start
-    part-is-slot-end
-    is-slot-requires
-    unfit-requires
-    returns
-    mul-handle-fits
-    shared-slice-read-handle-fits
-    handle-fits-requires
-    unfit-requires-2
-    returns-2
-    object-fits-requires
-    unfit-requires-3
-    returns-3
-    bytes-of-requires
-    add-end
-    mul-goes-on
-    shared-slice-read-goes-on
-    goes-on-requires
-    mul-last
-    shared-slice-read-last
-    add-i
-    loop-less
-    loop-again
-    returns-4)
+    (tie.spec Inv-loop μ-loop shared-slice-read-n cast-n loop-holds (λ c. omega arith)
+    (λ c. omega arith) (λ c. omega arith) (λ c. omega arith) (λ c. omega arith) (λ c. omega arith)
+    (λ c. omega arith) is-slot-requires (λ c κs. search needs) returns (λ c. omega arith)
+    (λ c. omega arith) (λ c κs. search needs) (λ c κs. search needs) returns-2 (λ c κs. omega arith)
+    (λ c κs. search needs) returns-3 bytes-of-requires add-end (λ c. omega arith) (λ c. omega arith)
+    (λ c κs. search needs) (λ c. omega arith) (λ c. omega arith) (λ c. omega arith)
+    (λ c. omega arith) loop-again returns-4)

@@ -21,23 +21,11 @@ abbrev μ-loop : tie.MeasureT-loop
 loop-holds : tie.Need-loop-holds Inv-loop μ-loop
 loop-holds c = (omega arith, (omega (arith, record-count _ (c .before .pre .0)), (omega arith, start-none (view (c .before .args .numbers .now)))))
 
-mul-bytes-of : tie.Need-mul-bytes-of Inv-loop μ-loop
-mul-bytes-of c = omega arith
-
-add-bytes-of : tie.Need-add-bytes-of Inv-loop μ-loop
-add-bytes-of c = omega arith
-
 bytes-of-requires : tie.Need-bytes-of-requires Inv-loop μ-loop
 bytes-of-requires c κs = (slot-room _ (c .before .before .before .pre .0) _ (omega (arith, c .before .before .before .pre .1 .1)), fits-seen (c .before .before .before .args .numbers .now) (c .before .before .before .pre .0) _ (omega (arith, c .before .before .before .pre .1 .1)) (c .before .before .before .pre .1 .0))
 
 add-end : tie.Need-add-end Inv-loop μ-loop
 add-end c = omega (arith, bytes-small (c .before .before .before .before .args .numbers .now) (c .before .before .before .before .pre .0) (c .before .before .loop .i) (omega (arith, c .before .before .before .before .pre .1 .1)) (c .before .before .before .before .pre .1 .0) (c .bytes-of .ensures))
-
-add-i : tie.Need-add-i Inv-loop μ-loop
-add-i c = omega arith
-
-loop-less : tie.Need-loop-less Inv-loop μ-loop
-loop-less c = omega arith
 
 loop-again : tie.Need-loop-again Inv-loop μ-loop
 loop-again c = (search needs, (search needs, (omega (arith, bytes-small (c .before .before .before .before .args .numbers .now) (c .before .before .before .before .pre .0) (c .before .before .loop .i) (omega (arith, c .before .before .before .before .pre .1 .1)) (c .before .before .before .before .pre .1 .0) (c .bytes-of .ensures)), start-more (view (c .before .before .before .before .args .numbers .now)) (c .before .before .loop .i) (c .before .before .loop .inv .1 .1 .1) (bytes-seen (c .before .before .before .before .args .numbers .now) (c .before .before .before .before .pre .0) (c .before .before .loop .i) (omega (arith, c .before .before .before .before .pre .1 .1)) (c .bytes-of .ensures)))))
@@ -48,15 +36,5 @@ returns c = let e : c .before .loop .i ≡ c .before .before .before .args .n = 
 pub start-of-spec : {M : Type 1} → statement M
 start-of-spec =
     tie.close
-    (tie.spec
-    Inv-loop
-    μ-loop
-    loop-holds
-    mul-bytes-of
-    add-bytes-of
-    bytes-of-requires
-    add-end
-    add-i
-    loop-less
-    loop-again
-    returns)
+    (tie.spec Inv-loop μ-loop loop-holds (λ c. omega arith) (λ c. omega arith) bytes-of-requires
+    add-end (λ c. omega arith) (λ c. omega arith) loop-again returns)

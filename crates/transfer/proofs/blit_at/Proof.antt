@@ -11,24 +11,6 @@ use Rattle.transfer.proofs.blit_at.Tie as tie
 abbrev lent : tie.Start → Memories
 lent s = memories (s .args .panel .now) (s .args .store .now)
 
-enum-told : tie.Need-enum-told
-enum-told c = search needs
-
-enum-known-at : tie.Need-enum-known-at
-enum-known-at c = search needs
-
-enum-told-2 : tie.Need-enum-told-2
-enum-told-2 c = search needs
-
-enum-known-src : tie.Need-enum-known-src
-enum-known-src c = search needs
-
-enum-told-3 : tie.Need-enum-told-3
-enum-told-3 c = search needs
-
-enum-told-4 : tie.Need-enum-told-4
-enum-told-4 c = search needs
-
 blit-inside-requires : tie.Need-blit-inside-requires
 blit-inside-requires c κs =
     let s = c .before .before .before .before .before .before .before .before .before .before .before .before .before in
@@ -37,9 +19,6 @@ blit-inside-requires c κs =
     let g = c .before .before .before .enum-told3 .given .1 in
     let h = c .before .enum-told4 .given .1 in
     (both-inside e f _ _ (s .pre .0) Panel Panel g h, side-panel e f (s .pre .1) g h)
-
-enum-told-5 : tie.Need-enum-told-5
-enum-told-5 c = search needs
 
 blit-between-requires : tie.Need-blit-between-requires
 blit-between-requires c κs =
@@ -50,12 +29,6 @@ blit-between-requires c κs =
     let h = c .before .before .enum-told5 .given .1 in
     both-inside e f _ _ (s .pre .0) Panel Store g h
 
-enum-told-6 : tie.Need-enum-told-6
-enum-told-6 c = search needs
-
-enum-told-7 : tie.Need-enum-told-7
-enum-told-7 c = search needs
-
 blit-between-requires-2 : tie.Need-blit-between-requires-2
 blit-between-requires-2 c κs =
     let s = c .before .before .before .before .before .before .before .before .before .before .before .before .before .before in
@@ -64,9 +37,6 @@ blit-between-requires-2 c κs =
     let g = c .before .before .before .before .enum-told6 .given .1 in
     let h = c .before .before .enum-told7 .given .1 in
     both-inside e f _ _ (s .pre .0) Store Panel g h
-
-enum-told-8 : tie.Need-enum-told-8
-enum-told-8 c = search needs
 
 blit-inside-requires-2 : tie.Need-blit-inside-requires-2
 blit-inside-requires-2 c κs =
@@ -89,9 +59,6 @@ returns-2 c =
     let a = s .args in
     from-nowhere (lent s) (a .src) (a .area) (a .from) (tableOf (a .rop)) (a .pat .0) (c .before .before .before .at .given .1) (c .enum-told2 .given .1)
 
-same-length : tie.Need-same-length
-same-length c = search needs
-
 returns-3 : tie.Need-returns-3
 returns-3 c =
     let s = c .before .before .before .before .before .before .before .before .before .before .before .before .before .before .before .before in
@@ -101,12 +68,6 @@ returns-3 c =
     let g = c .before .before .before .before .before .before .enum-told3 .given .1 in
     let h = c .before .before .before .before .enum-told4 .given .1 in
     drawn (lent s) (a .src) (a .area) (a .from) (tableOf (a .rop)) (a .pat .0) e f Panel Panel g h (c .before .before .blit-inside .ensures)
-
-same-length-2 : tie.Need-same-length-2
-same-length-2 c = search needs
-
-same-length-3 : tie.Need-same-length-3
-same-length-3 c = search needs
 
 returns-4 : tie.Need-returns-4
 returns-4 c =
@@ -118,12 +79,6 @@ returns-4 c =
     let h = c .before .before .before .before .before .enum-told5 .given .1 in
     drawn (lent s) (a .src) (a .area) (a .from) (tableOf (a .rop)) (a .pat .0) e f Panel Store g h (c .before .before .blit-between .ensures)
 
-same-length-4 : tie.Need-same-length-4
-same-length-4 c = search needs
-
-same-length-5 : tie.Need-same-length-5
-same-length-5 c = search needs
-
 returns-5 : tie.Need-returns-5
 returns-5 c =
     let s = c .before .before .before .before .before .before .before .before .before .before .before .before .before .before .before .before .before in
@@ -133,9 +88,6 @@ returns-5 c =
     let g = c .before .before .before .before .before .before .before .enum-told6 .given .1 in
     let h = c .before .before .before .before .before .enum-told7 .given .1 in
     drawn (lent s) (a .src) (a .area) (a .from) (tableOf (a .rop)) (a .pat .0) e f Store Panel g h (c .before .before .blit-between2 .ensures)
-
-same-length-6 : tie.Need-same-length-6
-same-length-6 c = search needs
 
 returns-6 : tie.Need-returns-6
 returns-6 c =
@@ -150,30 +102,9 @@ returns-6 c =
 pub blit-at-spec : {M : Type 1} → statement M
 blit-at-spec =
     tie.close
-    (tie.spec
-    enum-told
-    enum-known-at
-    enum-told-2
-    enum-known-src
-    enum-told-3
-    enum-told-4
-    blit-inside-requires
-    enum-told-5
-    blit-between-requires
-    enum-told-6
-    enum-told-7
-    blit-between-requires-2
-    enum-told-8
-    blit-inside-requires-2
-    returns
-    returns-2
-    same-length
-    returns-3
-    same-length-2
-    same-length-3
-    returns-4
-    same-length-4
-    same-length-5
-    returns-5
-    same-length-6
-    returns-6)
+    (tie.spec (λ c. search needs) (λ c. search needs) (λ c. search needs) (λ c. search needs)
+    (λ c. search needs) (λ c. search needs) blit-inside-requires (λ c. search needs)
+    blit-between-requires (λ c. search needs) (λ c. search needs) blit-between-requires-2
+    (λ c. search needs) blit-inside-requires-2 returns returns-2 (λ c. search needs) returns-3
+    (λ c. search needs) (λ c. search needs) returns-4 (λ c. search needs) (λ c. search needs)
+    returns-5 (λ c. search needs) returns-6)

@@ -24,50 +24,8 @@ module _ (k : tie.After-struct-told6) where
 mul-n : tie.Need-mul-n
 mul-n c = omega (arith, few-pixels (c .before .before .pre .0))
 
-cast-n : tie.Need-cast-n
-cast-n c = search needs
-
-mul-n-2 : tie.Need-mul-n-2
-mul-n-2 c = search needs
-
 mul-k : tie.Need-mul-k
 mul-k c = omega (arith, few-pixels (c .before .before .pre .1))
-
-cast-k : tie.Need-cast-k
-cast-k c = search needs
-
-mul-k-2 : tie.Need-mul-k-2
-mul-k-2 c = search needs
-
-add-blit-from : tie.Need-add-blit-from
-add-blit-from c = search needs
-
-sub-blit-from : tie.Need-sub-blit-from
-sub-blit-from c = search needs
-
-part-blit-from-start : tie.Need-part-blit-from-start
-part-blit-from-start c = search needs
-
-part-blit-from-end : tie.Need-part-blit-from-end
-part-blit-from-end c = search needs
-
-add-blit-from-2 : tie.Need-add-blit-from-2
-add-blit-from-2 c = search needs
-
-sub-blit-from-2 : tie.Need-sub-blit-from-2
-sub-blit-from-2 c = search needs
-
-part-blit-from-start-2 : tie.Need-part-blit-from-start-2
-part-blit-from-start-2 c = search needs
-
-part-blit-from-end-2 : tie.Need-part-blit-from-end-2
-part-blit-from-end-2 c = search needs
-
-blit-from-requires : tie.Need-blit-from-requires
-blit-from-requires c κs = search needs
-
-same-length : tie.Need-same-length
-same-length c = search needs
 
 returns : tie.Need-returns
 returns c =
@@ -79,21 +37,7 @@ returns c =
 pub blit-between-spec : {M : Type 1} → statement M
 blit-between-spec =
     tie.close
-    (tie.spec
-    mul-n
-    cast-n
-    mul-n-2
-    mul-k
-    cast-k
-    mul-k-2
-    add-blit-from
-    sub-blit-from
-    part-blit-from-start
-    part-blit-from-end
-    add-blit-from-2
-    sub-blit-from-2
-    part-blit-from-start-2
-    part-blit-from-end-2
-    blit-from-requires
-    same-length
-    returns)
+    (tie.spec mul-n (λ c. search needs) (λ c. search needs) mul-k (λ c. search needs)
+    (λ c. search needs) (λ c. search needs) (λ c. search needs) (λ c. search needs)
+    (λ c. search needs) (λ c. search needs) (λ c. search needs) (λ c. search needs)
+    (λ c. search needs) (λ c κs. search needs) (λ c. search needs) returns)

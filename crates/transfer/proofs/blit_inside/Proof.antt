@@ -25,9 +25,6 @@ blit-within-requires c κs =
     placed (a .width) (a .height) (a .area) (a .from) (a .src-w) (a .src-h) (tableOf (a .rop)) (a .pat .0) (a .mem .now) (a .p) (a .q)
     (s c .pre .0 .0) (s c .pre .0 .1) (s c .pre .1) (is c)
 
-same-length : tie.Need-same-length
-same-length c = search needs
-
 returns : tie.Need-returns
 returns c =
     let k = c .before .before .before in
@@ -36,4 +33,5 @@ returns c =
     (s k .pre .0 .0) (s k .pre .0 .1) (s k .pre .1) (is k) (c .before .before .blit-within .ensures)
 
 pub blit-inside-spec : {M : Type 1} → statement M
-blit-inside-spec = tie.close (tie.spec blit-within-requires same-length returns)
+blit-inside-spec = tie.close
+    (tie.spec blit-within-requires (λ c. search needs) returns)

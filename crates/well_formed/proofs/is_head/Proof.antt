@@ -9,29 +9,11 @@ use Rattle.well_formed.proofs.is_head.Tie as tie
 returns : tie.Need-returns
 returns c = too-short _ (λ e. omega (arith, c .if1 .taken))
 
-shared-slice-read-if2 : tie.Need-shared-slice-read-if2
-shared-slice-read-if2 c = search needs
-
 returns-2 : tie.Need-returns-2
 returns-2 c = no-flag _ (omega (arith, c .if2 .taken))
 
-shared-slice-read-if3 : tie.Need-shared-slice-read-if3
-shared-slice-read-if3 c = search needs
-
 returns-3 : tie.Need-returns-3
 returns-3 c = too-many _ (omega (arith, c .if3 .taken))
-
-sub-is-dc : tie.Need-sub-is-dc
-sub-is-dc c = search needs
-
-part-is-dc-start : tie.Need-part-is-dc-start
-part-is-dc-start c = search needs
-
-part-is-dc-end : tie.Need-part-is-dc-end
-part-is-dc-end c = search needs
-
-is-dc-requires : tie.Need-is-dc-requires
-is-dc-requires c κs = search needs
 
 returns-4 : tie.Need-returns-4
 returns-4 c =
@@ -44,14 +26,5 @@ returns-4 c =
 pub is-head-spec : {M : Type 1} → statement M
 is-head-spec =
     tie.close
-    (tie.spec
-    returns
-    shared-slice-read-if2
-    returns-2
-    shared-slice-read-if3
-    returns-3
-    sub-is-dc
-    part-is-dc-start
-    part-is-dc-end
-    is-dc-requires
-    returns-4)
+    (tie.spec returns (λ c. search needs) returns-2 (λ c. search needs) returns-3
+    (λ c. search needs) (λ c. search needs) (λ c. search needs) (λ c κs. search needs) returns-4)

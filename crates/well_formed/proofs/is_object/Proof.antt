@@ -7,26 +7,8 @@ use Rattle.well_formed.proofs.Tested.{bitmap-flag, bitmap-zeros}
 use Rattle.well_formed.proofs.is_object.Statement.{statement}
 use Rattle.well_formed.proofs.is_object.Tie as tie
 
-is-dc-requires : tie.Need-is-dc-requires
-is-dc-requires c κs = search needs
-
-shared-slice-read-if1 : tie.Need-shared-slice-read-if1
-shared-slice-read-if1 c = search needs
-
 returns : tie.Need-returns
 returns c = bitmap-flag _ _ (c .before .before .match .keys2) (c .if1 .taken)
-
-zeros-from-requires : tie.Need-zeros-from-requires
-zeros-from-requires c κs = search needs
-
-zeros-from-requires-2 : tie.Need-zeros-from-requires-2
-zeros-from-requires-2 c κs = search needs
-
-zeros-from-requires-3 : tie.Need-zeros-from-requires-3
-zeros-from-requires-3 c κs = search needs
-
-zeros-from-requires-4 : tie.Need-zeros-from-requires-4
-zeros-from-requires-4 c κs = search needs
 
 returns-2 : tie.Need-returns-2
 unfolding isObject
@@ -53,17 +35,6 @@ returns-7 c = no-kind _ _ (c .match .rest .0 .0 .0 .0 .1) (c .match .rest .0 .0 
 pub is-object-spec : {M : Type 1} → statement M
 is-object-spec =
     tie.close
-    (tie.spec
-    is-dc-requires
-    shared-slice-read-if1
-    returns
-    zeros-from-requires
-    zeros-from-requires-2
-    zeros-from-requires-3
-    zeros-from-requires-4
-    returns-2
-    returns-3
-    returns-4
-    returns-5
-    returns-6
-    returns-7)
+    (tie.spec (λ c κs. search needs) (λ c. search needs) returns (λ c κs. search needs)
+    (λ c κs. search needs) (λ c κs. search needs) (λ c κs. search needs) returns-2 returns-3
+    returns-4 returns-5 returns-6 returns-7)

@@ -21,18 +21,6 @@ abbrev μ-loop : tie.MeasureT-loop
 loop-holds : tie.Need-loop-holds Inv-loop μ-loop
 loop-holds c = (omega arith, (search needs, zeros-start (now (c .args .numbers)) (c .args .k)))
 
-mul-bits : tie.Need-mul-bits Inv-loop μ-loop
-mul-bits c = omega arith
-
-shared-slice-read-bits : tie.Need-shared-slice-read-bits Inv-loop μ-loop
-shared-slice-read-bits c = omega arith
-
-add-i : tie.Need-add-i Inv-loop μ-loop
-add-i c = omega arith
-
-loop-less : tie.Need-loop-less Inv-loop μ-loop
-loop-less c = omega arith
-
 loop-again : tie.Need-loop-again Inv-loop μ-loop
 loop-again c = (omega arith, (omega arith, zeros-more (c .before .before .before .args .numbers .now) (c .before .before .before .args .k) (c .before .before .loop .i) (c .before .before .loop .bits) (c .before .before .loop .inv .0) (c .before .before .loop .inv .1 .1)))
 
@@ -42,13 +30,5 @@ returns c = zeros-end (now (c .before .before .args .numbers)) (c .before .befor
 pub zeros-from-spec : {M : Type 1} → statement M
 zeros-from-spec =
     tie.close
-    (tie.spec
-    Inv-loop
-    μ-loop
-    loop-holds
-    mul-bits
-    shared-slice-read-bits
-    add-i
-    loop-less
-    loop-again
-    returns)
+    (tie.spec Inv-loop μ-loop loop-holds (λ c. omega arith) (λ c. omega arith) (λ c. omega arith)
+    (λ c. omega arith) loop-again returns)

@@ -7,23 +7,8 @@ use Rattle.words.specs.Words.{word}
 use Rattle.words.proofs.word_at.Statement.{statement}
 use Rattle.words.proofs.word_at.Tie as tie
 
-mul-lo : tie.Need-mul-lo
-mul-lo c = search needs
-
-shared-slice-read-lo : tie.Need-shared-slice-read-lo
-shared-slice-read-lo c = search needs
-
 cast-lo : tie.Need-cast-lo
 cast-lo c = omega (arith, c .shared-slice-known .given (2 * (c .before .args .i)))
-
-mul-hi : tie.Need-mul-hi
-mul-hi c = search needs
-
-add-hi : tie.Need-add-hi
-add-hi c = search needs
-
-shared-slice-read-hi : tie.Need-shared-slice-read-hi
-shared-slice-read-hi c = search needs
 
 cast-hi : tie.Need-cast-hi
 cast-hi c = omega (arith, c .shared-slice-known2 .given (2 * (c .before .before .args .i) + 1))
@@ -41,14 +26,5 @@ returns c = refl
 pub word-at-spec : {M : Type 1} → statement M
 word-at-spec =
     tie.close
-    (tie.spec
-    mul-lo
-    shared-slice-read-lo
-    cast-lo
-    mul-hi
-    add-hi
-    shared-slice-read-hi
-    cast-hi
-    mul-result
-    add-result
-    returns)
+    (tie.spec (λ c. search needs) (λ c. search needs) cast-lo (λ c. search needs)
+    (λ c. search needs) (λ c. search needs) cast-hi mul-result add-result returns)
