@@ -1,4 +1,4 @@
--- The examples tainted P, one about colour marks, and the program's: each is what the definitions compute.
+-- The examples marked P, one about taint, and the program's: each is what the definitions compute.
 use mathlib.Core.Bool.{true, false, _&&_}
 use mathlib.Core.List.{List, [], _∷_}
 use mathlib.Core.Path.{_≡_, refl, sym}
@@ -153,24 +153,24 @@ abbrev afterwards : Taint
 afterwards = taintBy row 6 2 [] second moving
 
 -- after the blit pixel 2, which read it, is tainted
-pub reader-marked : afterwards Panel 2 0
+pub reader-tainted : afterwards Panel 2 0
 unfolding taintAfter plan commonRefusal isSound sumBelow act blit targetOf dcOf paintsOf tainted taintedBy
-reader-marked = byS refl refl
+reader-tainted = byS refl refl
 
 -- pixel 1, which read pixel 0, is not
-pub overwritten-unmarked : afterwards Panel 1 0 → ⊥
+pub overwritten-untainted : afterwards Panel 1 0 → ⊥
 unfolding taintAfter plan commonRefusal isSound sumBelow act blit targetOf dcOf paintsOf tainted taintedBy
-overwritten-unmarked (byD e m) = clash e
-overwritten-unmarked (byS e m) = clash m
+overwritten-untainted (byD e m) = clash e
+overwritten-untainted (byS e m) = clash m
 
 -- nor is pixel 0, nor a pixel of a bitmap
-pub first-unmarked : afterwards Panel 0 0 → ⊥
+pub first-untainted : afterwards Panel 0 0 → ⊥
 unfolding taintAfter plan commonRefusal isSound sumBelow act blit targetOf dcOf paintsOf tainted taintedBy
-first-unmarked e = clash e
+first-untainted e = clash e
 
-pub bitmaps-unmarked : (h x y : ℕ) → afterwards (Bitmap h) x y → ⊥
+pub bitmaps-untainted : (h x y : ℕ) → afterwards (Bitmap h) x y → ⊥
 unfolding taintAfter plan commonRefusal isSound sumBelow act blit targetOf dcOf paintsOf tainted taintedBy
-bitmaps-unmarked h x y e = clash e
+bitmaps-untainted h x y e = clash e
 
 -- a fresh device: a panel of 1 by 1, a store of 12 bytes
 abbrev device : GdiState
@@ -208,7 +208,7 @@ pub bitmap-too-high : createBitmap device 1 4097 ≡ refuse 6 device
 unfolding createBitmap
 bitmap-too-high = refl
 
--- the example of the program `ppm`, not tainted P: 00 02 00 01 00 F8 1F 00 gives the lines `P6`, `2 1`, `255`, then FF 00 00 00 00 FF
+-- the example of the program `ppm`, not marked P: 00 02 00 01 00 F8 1F 00 gives the lines `P6`, `2 1`, `255`, then FF 00 00 00 00 FF
 pub picture-written :
     pictureOf (0x00 ∷ 0x02 ∷ 0x00 ∷ 0x01 ∷ 0x00 ∷ 0xF8 ∷ 0x1F ∷ 0x00 ∷ [])
     ≡ 80 ∷ 54 ∷ 10 ∷ 50 ∷ 32 ∷ 49 ∷ 10 ∷ 50 ∷ 53 ∷ 53 ∷ 10 ∷ 0xFF ∷ 0x00 ∷ 0x00 ∷ 0x00 ∷ 0x00 ∷ 0xFF ∷ []
