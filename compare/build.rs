@@ -1,7 +1,7 @@
-//! Hands the original's glyph table to the comparison.
+//! Gives the comparison the original's glyph table.
 //!
-//! `GLYPHS` is private in font.rs and `draw_char` shows only five columns of
-//! it, so the text of the constant is copied, made public, into OUT_DIR.
+//! `GLYPHS` is private in font.rs, and `draw_char` shows only five columns of it.
+//! So this copies the text of the constant to OUT_DIR and makes it public.
 
 use std::{env, fs, path::Path};
 

@@ -1,4 +1,5 @@
-//! Says where the static library is that `rt staticlib surface_ffi` writes.
+//! Tells cargo where to find the static library, which `rt staticlib surface_ffi`
+//! writes.
 
 fn main() {
     let folder = format!("{}/../../target/staticlib", env!("CARGO_MANIFEST_DIR"));

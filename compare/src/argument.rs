@@ -1,15 +1,15 @@
-//! The arguments of what a script lists, most significant byte first.
+//! The arguments of cases and calls in a script, most significant byte first.
 
 use std::marker::PhantomData;
 
-/// A number of a fixed number of bits, or a list of them.
+/// An argument: a number with a fixed number of bits, or a list of such numbers.
 pub trait Argument: Sized {
-    /// Takes the argument off the front of a script; `None` if it is cut short.
+    /// Reads the argument from the front of a script; `None` if it is cut short.
     fn read(script: &mut &[u8]) -> Option<Self>;
 
     fn write(&self, script: &mut Vec<u8>);
 
-    /// For people: signed and small numbers decimal, others hexadecimal.
+    /// A readable form: signed and small numbers in decimal, others in hexadecimal.
     fn shown(&self) -> String;
 }
 
@@ -41,15 +41,15 @@ macro_rules! numbers {
 
 numbers!(u8 u16 u32 u64 i32);
 
-/// The units of a text that are shown.
+/// How many units of a text are shown.
 const SHOWN: usize = 255;
 
-/// Units of 16 bits with their number before them, which is an `N`.
+/// Units of 16 bits, with their number before them as an `N`.
 #[derive(Clone, Debug, PartialEq)]
 pub struct Units<N>(Vec<u16>, PhantomData<N>);
 
 impl<N: TryFrom<usize>> Units<N> {
-    /// `None` if there are too many.
+    /// The units; `None` if there are too many.
     pub fn new(units: Vec<u16>) -> Option<Self> {
         N::try_from(units.len()).is_ok().then_some(Self(units, PhantomData))
     }

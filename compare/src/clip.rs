@@ -1,38 +1,38 @@
-//! Where a drawing lies, worked out for the tallies alone: sums of 64 bits, one
-//! axis after the other.
+//! Where a drawing lies, computed for the tallies only: in 64 bits, one axis at a
+//! time.
 
-/// The places where a drawing can be cut.
+/// The sides at which a drawing can be cut.
 pub const CUTS: [&str; 5] = ["left", "right", "top", "bottom", "by the source"];
 
-/// The ways in which a box can be moved onto a part of itself.
+/// The directions in which a box can be moved onto a part of itself.
 pub const MOVES: [&str; 5] = ["down", "up", "right", "left", "onto itself"];
 
 /// One axis of a drawing, clipped.
 pub struct Axis {
-    /// Where it begins on the target, and in the source.
+    /// Where it starts on the target and in the source.
     to: i64,
     pub from: i64,
     pub len: i64,
-    /// Whether it is cut at the target's begin, at its end, by the source.
+    /// Whether it is cut at the target's start, at its end, by the source.
     cuts: [bool; 3],
 }
 
-/// A stretch before it is clipped: its begin on the target, its begin in the
-/// source, its length, and the source's side.
+/// A span before it is clipped: its start on the target, its start in the source,
+/// its length, and the source's side.
 pub struct Stretch([i64; 4]);
 
 impl Stretch {
-    /// One that takes nothing from a source.
+    /// A span without a source.
     pub fn plain(begin: i32, len: i64) -> Self {
         Self([begin.into(), 0, len, len])
     }
 
-    /// One taken from a source of this side.
+    /// A span from a source of this side.
     pub fn taken(to: i32, from: i32, len: i32, side: u32) -> Self {
         Self([to.into(), from.into(), len.into(), side.into()])
     }
 
-    /// The part that is in the source and on a side of the target.
+    /// The part that lies in the source and on the target's side.
     fn clip(self, side: u32) -> Option<Axis> {
         let Self([begin, from, len, source]) = self;
         let side = i64::from(side);
@@ -44,21 +44,21 @@ impl Stretch {
     }
 }
 
-/// The part of a box that is in sight on a target of these sides, columns and
-/// rows; `None` if there is none.
+/// The part of a box that lies on a target of these sides, as columns and rows;
+/// `None` if there is none.
 pub fn boxed([x, y]: [Stretch; 2], [width, height]: [u32; 2]) -> Option<[Axis; 2]> {
     Some([x.clip(width)?, y.clip(height)?])
 }
 
-/// Which of `CUTS` a box has.
+/// At which of `CUTS` a box is cut.
 pub fn cuts([x, y]: &[Axis; 2]) -> [bool; CUTS.len()] {
     let [left, right, by_columns] = x.cuts;
     let [top, bottom, by_rows] = y.cuts;
     [left, right, top, bottom, by_columns || by_rows]
 }
 
-/// Which of `MOVES` a blit within one surface is; `None` if its source and its
-/// target have no pixel in common.
+/// Which of `MOVES` a blit within one surface makes; `None` if its source and its
+/// target share no pixel.
 pub fn moved([x, y]: &[Axis; 2]) -> Option<usize> {
     let (right, down) = (x.to - x.from, y.to - y.from);
     let overlap = right.abs() < x.len && down.abs() < y.len;
@@ -70,7 +70,7 @@ pub fn moved([x, y]: &[Axis; 2]) -> Option<usize> {
 mod tests {
     use super::*;
 
-    /// On 4 by 3, what is taken at these places from a source of these sides.
+    /// A blit to a target of 4 by 3, from these places of a source of these sides.
     fn taken([dx, dy]: [i32; 2], [sx, sy]: [i32; 2], n: i32, side: [u32; 2]) -> Option<[Axis; 2]> {
         let stretches = [Stretch::taken(dx, sx, n, side[0]), Stretch::taken(dy, sy, n, side[1])];
         boxed(stretches, [4, 3])

@@ -1,4 +1,4 @@
-//! The raster codes that have names.
+//! The named raster codes.
 
 use pocket_kernel::gdi::rop3;
 
@@ -20,7 +20,7 @@ pub const CODES: [(&str, u32); 15] = [
     ("WHITENESS", rop3::WHITENESS),
 ];
 
-/// The codes without their names.
+/// The numbers of the named codes.
 pub fn named() -> [u32; CODES.len()] {
     CODES.map(|(_, code)| code)
 }

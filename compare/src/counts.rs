@@ -1,8 +1,8 @@
-//! Counts under names, for the tallies.
+//! Named counts, for the tallies.
 
 use std::fmt;
 
-/// A count for each of some names.
+/// A count for each name of a list.
 pub struct Counts<const N: usize> {
     names: [&'static str; N],
     counts: [u64; N],
@@ -20,7 +20,7 @@ impl<const N: usize> Counts<N> {
 
     fn at(&self, name: &str) -> usize {
         let at = self.names.iter().position(|known| *known == name);
-        at.unwrap_or_else(|| panic!("nothing is counted as {name}"))
+        at.unwrap_or_else(|| panic!("there is no count named {name}"))
     }
 
     pub fn sum(&self) -> u64 {
@@ -44,7 +44,7 @@ impl<const N: usize> fmt::Display for Counts<N> {
     }
 }
 
-/// Names, each with its count.
+/// The names with their counts.
 pub fn listed(names: &[&str], counts: &[u64]) -> String {
     let listed: Vec<_> = names.iter().zip(counts).map(|(at, n)| format!("{at} {n}")).collect();
     listed.join(", ")

@@ -1,4 +1,4 @@
-//! CRC-32, the one of zlib and PNG.
+//! CRC-32, as in zlib and PNG.
 
 const TABLE: [u32; 256] = table();
 

@@ -55,7 +55,7 @@ fn main() -> ExitCode {
     }
 }
 
-/// False if answers differ; an error if there was nothing to compare.
+/// Runs a command. False if answers differ; an error if it could not compare.
 fn command(arguments: &[&str]) -> Result<bool, String> {
     match arguments {
         ["call-script" | "call-answers" | "call-picture" | "script", ..]
@@ -135,7 +135,7 @@ fn primitives_command(arguments: &[&str]) -> Result<bool, String> {
 }
 
 fn number(text: &str) -> Result<u64, String> {
-    text.parse().map_err(|_| format!("{text} is no number\n{USAGE}"))
+    text.parse().map_err(|_| format!("{text} is not a number\n{USAGE}"))
 }
 
 fn input() -> Result<Vec<u8>, String> {

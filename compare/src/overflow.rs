@@ -1,15 +1,15 @@
-//! Running the original where its sums may overflow.
+//! Runs the original where its sums may overflow.
 
 use std::any::Any;
 use std::panic::{catch_unwind, resume_unwind, set_hook, take_hook, AssertUnwindSafe};
 use std::sync::Once;
 
-/// A sum of the original overflowed: there is no answer to compare.
+/// A sum of the original overflowed, so it has no answer to compare.
 #[derive(Debug, PartialEq)]
 pub struct Overflow;
 
-/// Runs a part of the original. Only an overflow is caught; any other panic
-/// goes on. What the part had lent may be half changed after an overflow.
+/// Runs a part of the original and catches an overflow. Any other panic goes on.
+/// After an overflow, what the part was lent may be partly changed.
 pub fn caught<T>(part: impl FnOnce() -> T) -> Result<T, Overflow> {
     static QUIET: Once = Once::new();
     QUIET.call_once(quiet);
@@ -21,7 +21,7 @@ pub fn caught<T>(part: impl FnOnce() -> T) -> Result<T, Overflow> {
     })
 }
 
-/// Keeps the original's overflows from being reported on standard error.
+/// Keeps the panic messages of overflows off standard error.
 fn quiet() {
     let usual = take_hook();
     set_hook(Box::new(move |info| {

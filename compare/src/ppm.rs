@@ -1,19 +1,19 @@
-//! The program that writes a picture: inputs, good and damaged, the original's
-//! `snapshot_ppm` against it, and Netpbm's reader where it is installed.
+//! Compares the program `ppm` with the original's `snapshot_ppm`, on good and
+//! damaged inputs, and reads its pictures with Netpbm where that is installed.
 
 use pocket_kernel::framebuffer::Framebuffer;
 
 use crate::program::{self, hexadecimal, Progress};
 use crate::rng::Rng;
 
-/// The longest side that the program serves.
+/// The longest side that the program accepts.
 const LONGEST_SIDE: u16 = 144;
 
-/// What the program writes for an input that is no picture.
+/// What the program writes for an input that is not a picture.
 const NO_PICTURE: &[u8] = b"no picture\n";
 
-/// Compares the inputs at the edges and `count` random ones. True if every byte
-/// is equal; else the first difference has been printed.
+/// Compares the fixed inputs and `count` random ones. True if every byte is equal;
+/// otherwise it prints the first difference.
 pub fn run(program: &str, count: u64, seed: u64) -> Result<bool, String> {
     let netpbm = program::run("pamtopnm", &due(&picture(1, 1, 0))).is_ok();
     let mut rng = Rng::new(seed);
@@ -35,7 +35,7 @@ pub fn run(program: &str, count: u64, seed: u64) -> Result<bool, String> {
     Ok(true)
 }
 
-/// The sides of an input that is a picture.
+/// The sides of the picture that an input holds; `None` if it holds none.
 fn sides(input: &[u8]) -> Option<(u32, u32)> {
     let [a, b, c, d, pixels @ ..] = input else { return None };
     let (width, height) = (u16::from_be_bytes([*a, *b]), u16::from_be_bytes([*c, *d]));
@@ -44,8 +44,8 @@ fn sides(input: &[u8]) -> Option<(u32, u32)> {
     (served(width) && served(height) && exact).then_some((width.into(), height.into()))
 }
 
-/// What the program must write: the original's picture of the pixels, or the
-/// line for no picture.
+/// What the program must write: the original's picture of the pixels, or `no
+/// picture`.
 fn due(input: &[u8]) -> Vec<u8> {
     let Some((width, height)) = sides(input) else { return NO_PICTURE.into() };
     let mut panel = Framebuffer::new(width, height);
@@ -69,22 +69,22 @@ fn compare(program: &str, input: &[u8], netpbm: bool) -> Result<bool, String> {
     Ok(true)
 }
 
-/// Whether Netpbm reads the picture and finds in it the sides and the raster
-/// that were written: `pamtopnm` writes the same format, from what it has read.
+/// Whether Netpbm reads the picture correctly. `pamtopnm` reads it and writes it
+/// again, which must give the same bytes.
 fn read_back(picture: &[u8]) -> Result<bool, String> {
     let read = program::run("pamtopnm", picture).map_err(|error| format!("pamtopnm: {error}"))?;
     Ok(read.status.success() && read.stdout == picture)
 }
 
-/// A picture with sides, and with pixels that count up from a word.
+/// An input with these sides, whose pixels count up from a word.
 fn picture(width: u16, height: u16, first: u16) -> Vec<u8> {
     let words = (0..usize::from(width) * usize::from(height)).map(|i| first.wrapping_add(i as u16));
     let sides = [width.to_be_bytes(), height.to_be_bytes()].concat();
     sides.into_iter().chain(words.flat_map(u16::to_le_bytes)).collect()
 }
 
-/// The inputs that are the same every time: damaged ones, and pictures whose
-/// sides or bytes are at the edge.
+/// The fixed inputs: damaged ones, and pictures whose sides or bytes are at a
+/// limit.
 fn edges() -> Vec<Vec<u8>> {
     let example = [0x00, 0x02, 0x00, 0x01, 0x00, 0xF8, 0x1F, 0x00];
     let mut inputs: Vec<Vec<u8>> = (0..=example.len()).map(|n| example[..n].to_vec()).collect();
@@ -102,14 +102,14 @@ fn edges() -> Vec<Vec<u8>> {
         inputs.push([&whole[..], b"trailing rubbish\n"].concat());
         inputs.push(whole);
     }
-    // Samples that are white space and digits, right behind the header; every word.
+    // Samples that look like white space and digits, directly after the header; every word.
     inputs.push([&[0, 1, 0, 1][..], &0x0841u16.to_le_bytes()].concat());
     inputs.push([&[0, 1, 0, 1][..], &0x3186u16.to_le_bytes()].concat());
     inputs.extend((0..4).map(|k| picture(128, 128, k << 14)));
     inputs
 }
 
-/// A random input: mostly a picture, else one that is damaged.
+/// A random input: mostly a picture, sometimes a damaged one.
 fn random(rng: &mut Rng) -> Vec<u8> {
     let most = rng.pick(&[4, 20, i64::from(LONGEST_SIDE)]);
     let (width, height) = (rng.between(1, most) as u16, rng.between(1, most) as u16);

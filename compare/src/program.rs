@@ -1,4 +1,5 @@
-//! Running the proved program, and telling how far a long comparison has come.
+//! Runs the proved program, compares what it writes, and shows the progress of a
+//! long comparison.
 
 use std::borrow::Cow;
 use std::io::{self, IsTerminal, Write};
@@ -17,16 +18,16 @@ fn run_with(program: &str, arguments: &[&str], script: &[u8]) -> io::Result<Outp
     let mut command = Command::new(program);
     let mut child = command.args(arguments).stdin(Stdio::piped()).stdout(Stdio::piped()).spawn()?;
     let mut stdin = child.stdin.take().expect("standard input is piped");
-    // Written beside the reading, so that neither pipe can fill up and stop both.
+    // A thread writes while this one reads, so that no full pipe blocks both programs.
     thread::scope(|scope| {
-        // A program that stops reading is seen by what it printed.
+        // If the program stops reading, its output will differ.
         scope.spawn(move || stdin.write_all(script));
         child.wait_with_output()
     })
 }
 
-/// The first line that is not the answer; the number of answers if only the end
-/// of the output is wrong.
+/// The number of the first line that differs from the answer; the number of
+/// answers if only the end of the output differs.
 pub fn first_difference(answers: &[String], printed: &[u8]) -> Option<usize> {
     let mut lines = printed.split(|&byte| byte == b'\n');
     let differs = |answer: &String| lines.next() != Some(answer.as_bytes());
@@ -34,15 +35,15 @@ pub fn first_difference(answers: &[String], printed: &[u8]) -> Option<usize> {
     at.or_else(|| (!lines.eq([b""])).then_some(answers.len()))
 }
 
-/// A line of what was printed, for people.
+/// A line of the output, or 'nothing'.
 pub fn line_at(printed: &[u8], at: usize) -> Cow<'_, str> {
     let line = printed.split(|&byte| byte == b'\n').nth(at);
     let line = line.filter(|line| !line.is_empty());
     line.map_or("nothing".into(), String::from_utf8_lossy)
 }
 
-/// Compares what the program prints for a script with the lines that are due,
-/// and shows the first that differs. A script that it fails on is kept.
+/// Compares what the program prints for a script with the expected lines, and
+/// prints the first that differs. It keeps a script on which the program fails.
 pub fn compare(
     program: &str,
     script: &[u8],
@@ -58,8 +59,8 @@ pub fn compare(
 }
 
 /// Compares what the program, run with arguments, writes for a script with the
-/// bytes that are due, and shows the first that differs. A script that it fails
-/// on is kept.
+/// expected bytes, and prints the first that differs. It keeps a script on which
+/// the program fails.
 pub fn compare_bytes(
     program: &str,
     arguments: &[&str],
@@ -70,8 +71,8 @@ pub fn compare_bytes(
     is_equal(program, arguments, script, |written| byte_difference(due, written), name)
 }
 
-/// Whether what the program writes for a script is what is due; else the
-/// difference is shown, and the script is kept.
+/// Whether the program writes the expected output for a script. If not, it prints
+/// the difference and keeps the script.
 fn is_equal(
     program: &str,
     arguments: &[&str],
@@ -93,7 +94,7 @@ fn is_equal(
     Ok(true)
 }
 
-/// The line that differs, with what it is about.
+/// The line that differs, with the call or record that it belongs to.
 fn difference(
     lines: &[String],
     printed: &[u8],
@@ -108,15 +109,15 @@ fn difference(
     format!("lines differ at line {number}: {shown}\nexpected  {due}\nprogram   {line}")
 }
 
-/// Where the bytes written are first not those that are due, if they are not.
+/// Where the output first differs from the expected bytes; `None` if it does not.
 pub fn byte_difference(due: &[u8], written: &[u8]) -> Option<String> {
     let at = written.iter().zip(due).take_while(|(a, b)| a == b).count();
     let (due, written) = (due.len(), written.len());
     (at < due.max(written)).then(|| format!("differs at byte {at} of {due}, {written} written"))
 }
 
-/// Writes the script to the folder for temporary files, as it is and in
-/// hexadecimal, and says where.
+/// Writes the script to the folder for temporary files, as bytes and in
+/// hexadecimal. Returns both paths.
 fn kept(script: &[u8], name: &str) -> Result<String, String> {
     let path = env::temp_dir().join(format!("compare-{name}.script"));
     let text = path.with_extension("hex");
@@ -130,8 +131,8 @@ pub fn hexadecimal(bytes: &[u8]) -> String {
     bytes.iter().map(|byte| format!("{byte:02x}")).collect()
 }
 
-/// A progress line on standard error: kept up to date on a terminal, else one
-/// line about every five seconds.
+/// A progress line on standard error: updated in place on a terminal, otherwise a
+/// new line about every five seconds.
 pub struct Progress {
     total: u64,
     what: &'static str,
@@ -147,7 +148,7 @@ impl Progress {
     pub fn show(&mut self, done: u64) {
         let Self { total, what, .. } = self;
         if io::stderr().is_terminal() {
-            // What is printed next goes over it.
+            // The next output overwrites this line.
             eprint!("{done} of {total} {what}\r");
         } else if self.shown.elapsed() >= Duration::from_secs(5) {
             eprintln!("{done} of {total} {what}");

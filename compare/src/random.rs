@@ -3,7 +3,7 @@
 use crate::codes::named;
 use crate::rng::Rng;
 
-/// Any number of 32 bits, half of the time without the top byte.
+/// Any number of 32 bits; half of the time its top byte is 0.
 pub fn colorref(rng: &mut Rng) -> u32 {
     let top = if rng.one_in(2) { 0x00FF_FFFF } else { u32::MAX };
     rng.next() as u32 & top
@@ -18,7 +18,7 @@ pub fn word(rng: &mut Rng) -> u16 {
     }
 }
 
-/// A named code, a named one with other bits changed, or any table.
+/// A named code, a named code with bits outside the table changed, or any table.
 pub fn code(rng: &mut Rng) -> u32 {
     let other_bits = rng.next() as u32 & 0xFF00_FFFF;
     match rng.below(8) {
@@ -29,7 +29,7 @@ pub fn code(rng: &mut Rng) -> u32 {
     }
 }
 
-/// A unit, mostly one with a glyph.
+/// A unit, mostly one that has a glyph.
 pub fn unit(rng: &mut Rng) -> u16 {
     match rng.below(24) {
         0 => rng.next() as u16,

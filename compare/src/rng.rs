@@ -1,5 +1,5 @@
-//! A small random number generator (splitmix64), so that a seed makes the same
-//! cases everywhere.
+//! A small random number generator (splitmix64). A seed gives the same cases on
+//! every machine.
 
 pub struct Rng(u64);
 
@@ -15,17 +15,17 @@ impl Rng {
         z ^ z >> 31
     }
 
-    /// A number under `n`.
+    /// A number below `n`.
     pub fn below(&mut self, n: u64) -> u64 {
         ((u128::from(self.next()) * u128::from(n)) >> 64) as u64
     }
 
-    /// A number from `low` to `high`, both included.
+    /// A number from `low` to `high`, inclusive.
     pub fn between(&mut self, low: i64, high: i64) -> i64 {
         low + self.below((high - low + 1) as u64) as i64
     }
 
-    /// True once in `n` times.
+    /// True with a chance of one in `n`.
     pub fn one_in(&mut self, n: u64) -> bool {
         self.below(n) == 0
     }
@@ -34,7 +34,7 @@ impl Rng {
         from[self.below(from.len() as u64) as usize]
     }
 
-    /// One of these, each as often as its share says.
+    /// One of these, each with a chance in proportion to its share.
     pub fn weighted<T: Copy>(&mut self, from: &[(T, u64)]) -> T {
         let mut at = self.below(from.iter().map(|one| one.1).sum());
         for &(one, share) in from {

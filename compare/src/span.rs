@@ -1,16 +1,16 @@
-//! Random stretches along one axis: of boxes, of blits, of text.
+//! Random spans along one axis: of boxes, of blits, of text.
 
 use crate::rng::Rng;
 
-/// A stretch: its begin on the surface and in the source, and its length.
+/// A span: its start on the surface and in the source, and its length.
 pub struct Span {
     pub begin: i32,
     pub from: i32,
     pub len: i32,
 }
 
-/// A stretch on a surface and a source of these sides, mostly one that is seen:
-/// a part inside both, or as much as there can be, and more to either end of it.
+/// A span on a surface and a source of these sides. Mostly it is visible: a part
+/// that lies inside both, or the largest such part, extended at either end.
 pub fn span(rng: &mut Rng, side: i64, source: i64, whole: bool) -> Span {
     if rng.one_in(14) {
         return unseen(rng, side, source);
@@ -21,8 +21,8 @@ pub fn span(rng: &mut Rng, side: i64, source: i64, whole: bool) -> Span {
     wider(rng, [begin, from, len], side + source)
 }
 
-/// A stretch moved within one side, mostly onto a part of itself, and more to
-/// either end of it.
+/// A span moved within one side, mostly onto a part of itself, extended at either
+/// end.
 pub fn moved(rng: &mut Rng, side: i64) -> Span {
     let len = if rng.one_in(8) { side } else { rng.between(1, (side - 1).max(1)) };
     let room = side - len;
@@ -33,7 +33,7 @@ pub fn moved(rng: &mut Rng, side: i64) -> Span {
     wider(rng, [begin, from, len], 2 * side)
 }
 
-/// A part inside as a stretch that goes on past it, where i32 has room.
+/// A visible part extended at both ends, as far as i32 allows.
 fn wider(rng: &mut Rng, [begin, from, len]: [i64; 3], sides: i64) -> Span {
     let (before, after) = (beyond(rng, sides), beyond(rng, sides));
     let wider = |before, after| {
@@ -46,8 +46,8 @@ fn wider(rng: &mut Rng, [begin, from, len]: [i64; 3], sides: i64) -> Span {
     wider(before, after).or_else(|| wider(0, 0)).expect("a part inside has small numbers")
 }
 
-/// How far a stretch goes on past the part that is seen: not at all, a little,
-/// past every edge, or as far as i32 goes.
+/// How far a span extends past its visible part: not at all, a little, past every
+/// edge, or to the end of i32.
 fn beyond(rng: &mut Rng, sides: i64) -> i64 {
     match rng.below(16) {
         0..=8 => 0,
@@ -57,8 +57,8 @@ fn beyond(rng: &mut Rng, sides: i64) -> i64 {
     }
 }
 
-/// A stretch that is mostly not seen: empty, turned round, next to an edge, far
-/// away, or with the ends of i32.
+/// A span that is mostly not visible: empty, of negative length, next to an edge,
+/// far away, or at the ends of i32.
 fn unseen(rng: &mut Rng, side: i64, source: i64) -> Span {
     let begin = rng.between(0, side - 1) as i32;
     let from = rng.between(0, source - 1) as i32;
@@ -77,8 +77,8 @@ fn unseen(rng: &mut Rng, side: i64, source: i64) -> Span {
     }
 }
 
-/// A stretch of an outline: both ends mostly on the side or next to it, some
-/// further away. The original walks all of it, so that it is seldom long.
+/// A span of an outline. Both ends are mostly on the side or next to it, some are
+/// further away. The original visits every pixel of it, so it is rarely long.
 pub fn outline(rng: &mut Rng, side: i64) -> Span {
     let (low, high) = match rng.below(16) {
         0 => return unwalked(rng, side),
@@ -93,7 +93,7 @@ pub fn outline(rng: &mut Rng, side: i64) -> Span {
     Span { begin: first as i32, from: 0, len: (last - first + 1) as i32 }
 }
 
-/// An outline's stretch that has no end in sight: none, turned round, or at the
+/// An outline's span without a visible end: empty, of negative length, or at the
 /// ends of i32.
 fn unwalked(rng: &mut Rng, side: i64) -> Span {
     let len = rng.between(1, 2 * side) as i32;
@@ -108,8 +108,9 @@ fn unwalked(rng: &mut Rng, side: i64) -> Span {
     Span { begin, from: 0, len }
 }
 
-/// The begin of something this long, mostly where a part of it is on the side:
-/// its first part, or any; else next to the side, far away, at the ends of i32.
+/// The start of a span of this length. Mostly a part of it is on the side: its
+/// first part, or any. Otherwise it is next to the side, far away, or at the ends
+/// of i32.
 pub fn near(rng: &mut Rng, side: i64, len: i64) -> i32 {
     let begin = match rng.below(48) {
         0 | 1 => rng.pick(&[-len - 1, -len, -len + 1, side - 1, side, side + 1]),

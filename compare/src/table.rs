@@ -1,5 +1,5 @@
-//! Tables of the documents: what a script lists, each with a byte, a name and
-//! arguments.
+//! Tables of the documents: the cases or calls of a script, each with a byte, a
+//! name and arguments.
 
 /// Defines an enum from a document's table: byte, name, arguments.
 macro_rules! table {
@@ -22,7 +22,7 @@ macro_rules! table {
                 }
             }
 
-            /// Adds the bytes to a script.
+            /// Appends the bytes to a script.
             pub fn write(&self, script: &mut Vec<u8>) {
                 use $crate::argument::Argument;
                 self.byte().write(script);
@@ -31,7 +31,7 @@ macro_rules! table {
                 }
             }
 
-            /// Takes one off the front of a script, whatever its arguments.
+            /// Reads one from the front of a script and accepts any arguments.
             fn read_any(script: &mut &[u8]) -> Option<$table> {
                 use $crate::argument::Argument;
                 Some(match u8::read(script)? {

@@ -1,7 +1,7 @@
-//! Times the proved operations beside the original's: in each round one after
-//! the other, the order changing; a row has the medians over the rounds. Both
-//! draw as often on their own surface, and the surfaces and the answers must be
-//! equal in the end.
+//! Times the proved operations and the original's. Each round times both, in
+//! alternating order; a row has the medians over the rounds. Both draw equally
+//! often, each on its own surface, and at the end the surfaces and the answers
+//! must be equal.
 
 mod proved;
 
@@ -11,7 +11,7 @@ use std::time::Instant;
 use pocket_kernel::font;
 use pocket_kernel::gdi::{rop3, Bitmap, Surface};
 
-/// About how long one of the two is timed in a round, in nanoseconds.
+/// About how long each of the two runs in a round, in nanoseconds.
 const SLICE: f64 = 2e6;
 
 /// What is drawn.
@@ -23,8 +23,8 @@ enum Operation {
     Outline([i32; 4]),
 }
 
-/// A row of the table: what is drawn on a surface of these sides, and the ratio
-/// that it should not exceed, if there is one.
+/// A row of the table: what is drawn, the sides of the surface, and the ratio that
+/// should not be exceeded, if there is a target.
 struct Row {
     name: &'static str,
     sides: [u32; 2],
@@ -83,7 +83,7 @@ impl Scene {
         Scene { ours, theirs, src, text }
     }
 
-    /// Draws with the proved operation; its answer.
+    /// Draws with the proved operation. Returns its answer.
     fn ours(&mut self, operation: &Operation) -> i32 {
         let surface = &mut self.ours;
         match *operation {
@@ -95,7 +95,7 @@ impl Scene {
         }
     }
 
-    /// Draws with the original; its answer, a mark where it has none.
+    /// Draws with the original. Returns its answer, or whether it made a mark.
     fn theirs(&mut self, operation: &Operation) -> i32 {
         let (width, height) = (self.theirs.width, self.theirs.height);
         let (whole_w, whole_h) = (width as i32, height as i32);
@@ -117,7 +117,7 @@ impl Scene {
     }
 }
 
-/// Nanoseconds for each of `count` times.
+/// The time of one drawing in nanoseconds, measured over `count` of them.
 fn time(count: u32, mut part: impl FnMut() -> i32) -> f64 {
     let start = Instant::now();
     for _ in 0..count {
@@ -156,7 +156,7 @@ fn measure(row: &Row, rounds: u32) -> (f64, f64) {
     (ours, theirs)
 }
 
-/// Draws the same twice on both, from the same pixels: the pixels must be equal.
+/// Draws twice on both, from the same pixels. The pixels must be equal afterwards.
 fn check(row: &Row) {
     let mut scene = Scene::new(row.sides);
     for _ in 0..2 {

@@ -1,6 +1,6 @@
-//! The proved operations, as the static library has them.
+//! The proved operations, from the static library.
 
-/// What a drawing answers.
+/// The answer of a drawing.
 #[repr(C)]
 #[derive(Clone, Copy)]
 pub struct Drawn {
@@ -8,7 +8,7 @@ pub struct Drawn {
     pub marked: bool,
 }
 
-/// What a text answers.
+/// The answer of a text.
 #[repr(C)]
 #[derive(Clone, Copy)]
 pub struct Advance {
@@ -26,7 +26,7 @@ extern "C" {
     fn ravinefork_draw_str_u16(pixels: *mut u8, len: usize, width: u32, height: u32, x: i32, y: i32, s: *const u16, s_len: usize, color: u16) -> Advance;
 }
 
-/// A surface of the proved operations.
+/// A surface for the proved operations.
 pub struct Surface {
     pub pixels: Vec<u8>,
     pub width: u32,
@@ -40,7 +40,8 @@ impl Surface {
 
     pub fn fill_rect(&mut self, [x, y, w, h]: [i32; 4], color: u16) -> bool {
         let (pixels, len) = self.lent();
-        // SAFETY: the pointer and the length are those of `pixels`, which nothing else uses meanwhile.
+        // SAFETY: the pointer and the length are those of `pixels`, which nothing else uses during the
+        // call.
         let drawn = unsafe {
             ravinefork_fill_rect(pixels, len, self.width, self.height, x, y, w, h, color)
         };
@@ -65,13 +66,13 @@ impl Surface {
         accepted(drawn)
     }
 
-    /// The whole of a source of the same sides.
+    /// Blits a whole source that has the surface's sides.
     pub fn blit_whole(&mut self, src: &[u8], rop: u32, pat: u16) -> bool {
         let sides = [self.width, self.height];
         self.blit_at([0, 0], src, sides, rop, pat)
     }
 
-    /// The whole of a source of these sides.
+    /// Blits a whole source of these sides.
     pub fn blit_at(
         &mut self,
         [dx, dy]: [i32; 2],

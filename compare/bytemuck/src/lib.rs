@@ -25,8 +25,8 @@ macro_rules! pod {
 
 pod!(u8 u16 u32);
 
-/// The number of `B`s that the slice holds; panics if they would be misaligned
-/// or if bytes would be left over.
+/// How many `B`s the slice holds. Panics if they would be misaligned, or if bytes
+/// would be left over.
 fn cast_len<A: Pod, B: Pod>(a: &[A]) -> usize {
     let bytes = size_of_val(a);
     assert!(
@@ -55,7 +55,7 @@ pub fn cast_slice_mut<A: Pod, B: Pod>(a: &mut [A]) -> &mut [B] {
 mod tests {
     use super::*;
 
-    /// Eight bytes that begin at a multiple of 4.
+    /// Eight bytes at an address that is a multiple of 4.
     #[repr(align(4))]
     struct Aligned([u8; 8]);
 

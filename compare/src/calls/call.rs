@@ -3,11 +3,11 @@
 use crate::argument::Units;
 use crate::table::table;
 
-/// The units of the longest text that a script may have.
+/// How many units the longest text of a script has.
 pub const MAX_UNITS: usize = 70_000;
 
 table! {
-    /// One call with its arguments.
+    /// A call with its arguments.
     Call {
         0x01 "create memory DC" CreateMemoryDc {}
         0x02 "create compatible bitmap" CreateCompatibleBitmap { width: u32, height: u32 }
@@ -34,7 +34,7 @@ table! {
 }
 
 impl Call {
-    /// Takes a call off the front of a script; `None` if it is a bad one.
+    /// Reads a call from the front of a script; `None` if it is a bad call.
     pub fn read(script: &mut &[u8]) -> Option<Call> {
         let call = Call::read_any(script)?;
         let good = match call {
@@ -64,7 +64,7 @@ impl Call {
     }
 }
 
-/// Whether calls with this byte draw, on the surface of a DC or on the panel.
+/// Whether the call with this byte draws, on a DC's surface or on the panel.
 pub fn is_drawing(byte: u8) -> bool {
     byte >= 0x0D
 }

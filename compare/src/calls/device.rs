@@ -1,5 +1,5 @@
-//! The device: the original's objects and panel, behind refusals and in lent
-//! memories, which the original does not have.
+//! The device: the original's objects and panel, with what the original does not
+//! have: refusals and lent memories.
 
 use std::mem::replace;
 
@@ -21,22 +21,23 @@ pub const MAX_OBJECTS: usize = 256;
 pub struct Device {
     original: Original,
     pub(super) panel: Framebuffer,
-    /// The stock bitmap, then the created objects in order of creation: the
-    /// order of pixels in the store. Empty after a refused open.
+    /// The stock bitmap and the created objects in order of creation, which is the
+    /// order of their pixels in the store. Empty after a refused open.
     order: Vec<u32>,
-    /// The memories as lent: the original has the pixels, these the other bytes.
+    /// The lent memories. The pixels are in the original; only the other bytes are
+    /// valid here.
     pub(super) panel_memory: Vec<u8>,
     store: Vec<u8>,
-    /// Whether the call under way has changed a pixel.
+    /// Whether the present call has changed a pixel.
     pub(super) changed: bool,
-    /// The bitmaps that deletions and removals have moved down, and those of
-    /// them that were not all black.
+    /// How many bitmaps deletions and removals have moved, and how many of them
+    /// were not all black.
     pub moved: [u64; 2],
 }
 
 impl Device {
-    /// The number with which open is refused, 0 if it is not: 6 a side, then 8 a
-    /// memory above the limit, then 7 one that is too short.
+    /// The number with which open is refused, 0 if it is accepted: 6 a side, then 8
+    /// a memory above the limit, then 7 a memory that is too short.
     pub fn open_refusal(panel_len: u64, store_len: u64, width: u32, height: u32) -> u8 {
         let side = |n| (1..=MAX_SIDE).contains(&n);
         if !(side(width) && side(height)) {
@@ -50,7 +51,7 @@ impl Device {
         }
     }
 
-    /// Opens a device on the lent memories, or says why not.
+    /// Opens a device on the lent memories, or returns the refusal.
     pub fn open(panel: Vec<u8>, store: Vec<u8>, width: u32, height: u32) -> (u8, Device) {
         let (panel_len, store_len) = (panel.len() as u64, store.len() as u64);
         let refusal = Self::open_refusal(panel_len, store_len, width, height);
@@ -90,18 +91,18 @@ impl Device {
         self.order.get(1..).unwrap_or_default()
     }
 
-    /// The handle after the last one given.
+    /// The next handle.
     pub fn next(&self) -> u32 {
         self.original.next
     }
 
-    /// The store's bytes that no bitmap has.
+    /// How many bytes of the store are free.
     pub fn left(&self) -> usize {
         self.store_len() - self.used()
     }
 
-    /// Performs the call. Where a sum of the original overflows there is no
-    /// outcome, and the device is as it was.
+    /// Performs the call. If a sum of the original overflows, there is no outcome
+    /// and the device is unchanged.
     pub fn perform(&mut self, call: &Call) -> Result<Outcome, Overflow> {
         let panel = self.sides(Place::Panel);
         self.changed = false;
@@ -141,8 +142,8 @@ impl Device {
         })
     }
 
-    /// Creates an object, unless refused: 6 a side, then 5 too many objects, then
-    /// 7 no room in the store.
+    /// Creates an object, or refuses: 6 a side, then 5 too many objects, then 7 no
+    /// room in the store.
     fn create(&mut self, call: &Call) -> Result<u32, u8> {
         let mut bytes = 0;
         if let Call::CreateCompatibleBitmap { width, height } = *call {
@@ -162,8 +163,8 @@ impl Device {
         Ok(handle)
     }
 
-    /// Has the original take an object out of its table. The pixels behind it
-    /// move down, and what they leave at the end turns black.
+    /// Removes an object from the original's table. The pixels behind it in the
+    /// store move down, and the bytes that they leave at the end become 0.
     fn taken<T>(&mut self, take: impl FnOnce(&mut GdiState) -> T) -> T {
         let used = self.used();
         let answer = take(&mut self.original.gdi);
@@ -186,13 +187,13 @@ impl Device {
         self.original.gdi.dc_mut(dc).ok_or(1)
     }
 
-    /// All pixels in the store, without a gap.
+    /// The pixels of all bitmaps in the store, without a gap.
     fn pixels(&self) -> impl Iterator<Item = &[u8]> {
         let bitmaps = self.order.iter().filter_map(|&handle| self.gdi().bitmap(handle));
         bitmaps.map(|bitmap| bitmap.pixels.as_slice())
     }
 
-    /// The bytes that all pixels in the store have.
+    /// How many bytes of the store are in use.
     fn used(&self) -> usize {
         self.pixels().map(<[u8]>::len).sum()
     }
@@ -202,19 +203,19 @@ impl Device {
         self.panel.snapshot_ppm()
     }
 
-    /// The panel memory, whole.
+    /// The whole panel memory.
     pub(super) fn panel_bytes(&self) -> Vec<u8> {
         let pixels = self.panel.pixels.as_slice();
         [pixels, &self.panel_memory[pixels.len()..]].concat()
     }
 
-    /// The store, whole.
+    /// The whole store.
     fn store_bytes(&self) -> Vec<u8> {
         let pixels: Vec<&[u8]> = self.pixels().collect();
         [pixels.concat().as_slice(), &self.store[self.used()..]].concat()
     }
 
-    /// The state lines as they are now: panel, screen DC, created objects, CRCs.
+    /// The present state lines: panel, screen DC, created objects, CRCs.
     pub fn state(&self) -> Vec<String> {
         let gdi = self.gdi();
         let screen = gdi.dc(GDI_SCREEN_DC).expect("the screen DC is stock");
@@ -237,8 +238,8 @@ impl Device {
         lines
     }
 
-    /// The state lines at the end of a script, where the original itself is asked
-    /// for its next handle.
+    /// The state lines at the end of a script. Here the original itself gives its
+    /// next handle.
     pub fn end(self) -> Vec<String> {
         let lines = self.state();
         self.original.confirm_next();
@@ -246,7 +247,7 @@ impl Device {
     }
 }
 
-/// The bytes of a surface of these sides.
+/// How many bytes a surface of these sides has.
 pub fn bytes_of(width: u32, height: u32) -> u64 {
     2 * u64::from(width) * u64::from(height)
 }
@@ -255,14 +256,14 @@ pub fn bytes_of(width: u32, height: u32) -> u64 {
 mod tests {
     use super::*;
 
-    /// A device of 1 by 1 whose store has this length, filled with 0xA5.
+    /// A device with a panel of 1 by 1 and a store of this length, filled with 0xA5.
     fn device(store_len: usize) -> Device {
         let (refusal, device) = Device::open(vec![0xA5; 3], vec![0xA5; store_len], 1, 1);
         assert_eq!(refusal, 0);
         device
     }
 
-    /// Performs the call: its refusal and its answer, as printed.
+    /// Performs the call. Returns its refusal and answer, as printed.
     fn perform(device: &mut Device, call: Call) -> String {
         device.perform(&call).expect("no sum overflows").to_string()
     }

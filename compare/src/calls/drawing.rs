@@ -1,4 +1,4 @@
-//! Drawings: a readable source form of call scripts, with names for handles.
+//! Drawings: call scripts as readable text, with names for handles.
 
 use std::collections::HashMap;
 use std::str::FromStr;
@@ -29,7 +29,7 @@ const STOCK_NAMES: [&str; STOCK.len()] = [
     "default_bitmap",
 ];
 
-/// The call script of a drawing; an error names the line.
+/// The call script of a drawing. An error names the line.
 pub fn drawing(text: &str) -> Result<Vec<u8>, String> {
     let mut drawing = Drawing::new();
     for (at, line) in text.lines().enumerate() {
@@ -38,7 +38,7 @@ pub fn drawing(text: &str) -> Result<Vec<u8>, String> {
     drawing.device.map(|_| drawing.script).ok_or("nothing is opened".into())
 }
 
-/// A drawing under way: its script, and the device after the calls so far.
+/// A partly read drawing: its script, and the device after the calls so far.
 struct Drawing {
     script: Vec<u8>,
     device: Option<Device>,
@@ -51,7 +51,7 @@ impl Drawing {
         Self { script: Vec::new(), device: None, names: stock.collect() }
     }
 
-    /// Adds what a line says.
+    /// Adds the call of a line.
     fn add(&mut self, line: &str) -> Result<(), String> {
         let words = words(line)?;
         match words[..] {
@@ -83,7 +83,7 @@ impl Drawing {
         Ok(())
     }
 
-    /// Adds a call, which the device performs; its answer.
+    /// Adds a call and performs it on the device. Returns its answer.
     fn perform(&mut self, words: &[&str]) -> Result<Answer, String> {
         let call = self.call(words)?;
         let device = self.device.as_mut().ok_or("no device is open")?;
@@ -166,8 +166,8 @@ impl Drawing {
     }
 }
 
-/// The words of a line without its comment. A text is one word, with the quote
-/// before it.
+/// The words of a line without its comment. A text is one word, which keeps its
+/// first quote.
 fn words(line: &str) -> Result<Vec<&str>, String> {
     let mut words = Vec::new();
     let mut rest = line.trim_start();
@@ -202,13 +202,13 @@ fn numbers<T: FromStr + Copy + Default, const N: usize>(
     Ok(numbers)
 }
 
-/// The number of hexadecimal digits, of which there are so many.
+/// The number that a fixed number of hexadecimal digits stand for.
 fn hexadecimal(word: &str, digits: usize) -> Option<u32> {
     let good = word.len() == digits && word.bytes().all(|byte| byte.is_ascii_hexdigit());
     u32::from_str_radix(word, 16).ok().filter(|_| good)
 }
 
-/// The COLORREF of a colour, which has red before green and blue.
+/// The COLORREF of a colour, which is written red, green, blue.
 fn colorref(word: &str) -> Result<u32, String> {
     let rgb = hexadecimal(word, 6).ok_or_else(|| format!("{word} is no colour"))?;
     Ok(rgb.swap_bytes() >> 8)

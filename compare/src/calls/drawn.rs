@@ -1,5 +1,5 @@
-//! What the calls that draw did: where they were cut, which surfaces they took,
-//! how they ended.
+//! Counts of the drawing calls: where they were cut, which surfaces they used, and
+//! with what result.
 
 use std::fmt;
 
@@ -17,13 +17,13 @@ pub struct Drawn {
     cuts: Counts<5>,
     /// Blits under a code that uses S, by their surfaces.
     blits: Counts<5>,
-    /// Those of the stock bitmap, from it or to it.
+    /// Such blits from or to the stock bitmap.
     stock: u64,
-    /// Those within one surface that are in sight.
+    /// Such blits within one surface that draw a pixel, by direction.
     moves: Counts<6>,
-    /// Blits under a code that ignores S.
+    /// Blits under a code that does not use S.
     without_source: u64,
-    /// Rectangles by their marks.
+    /// Rectangles by the number of their marks.
     rectangles: Counts<3>,
     texts: Counts<3>,
     resizes: Counts<7>,
@@ -58,7 +58,7 @@ impl Drawn {
         }
     }
 
-    /// Counts a call that draws, with the device after it.
+    /// Counts a drawing call, with the device after it.
     pub fn count(&mut self, call: &Call, outcome: &Outcome, device: &Device) {
         match *call {
             Call::Text { ref units, .. } if matches!(outcome.refusal, 0 | 10) => {
@@ -76,7 +76,7 @@ impl Drawn {
         }
     }
 
-    /// Counts an accepted call by what of it is in sight.
+    /// Counts an accepted call by its visible part.
     fn count_seen(&mut self, call: &Call, outcome: &Outcome, device: &Device) {
         let seen = seen(call, device);
         if let (true, Some(seen)) = (outcome.changed, &seen) {
@@ -114,7 +114,7 @@ impl Drawn {
         }
     }
 
-    /// The least of all counts that are to be above 0, but for texts that are
+    /// The least of all counts that must be above 0, except that of texts that are
     /// too long.
     #[cfg(test)]
     pub fn least(&self) -> u64 {
@@ -133,8 +133,7 @@ impl Drawn {
     }
 }
 
-/// The box of an accepted drawing on the surface of a DC, as far as it is in
-/// sight.
+/// The visible part of the box of an accepted drawing on a DC's surface.
 fn seen(call: &Call, device: &Device) -> Option<[Axis; 2]> {
     let sides = |dc| device.place(dc).ok().map(|place| device.sides(place));
     let (dc, stretches) = match *call {
@@ -148,7 +147,7 @@ fn seen(call: &Call, device: &Device) -> Option<[Axis; 2]> {
             (dc, [Stretch::plain(x, w.into()), Stretch::plain(y, h.into())])
         }
         Call::Text { dc, x, y, ref units } => {
-            // A glyph's last column has no ink.
+            // The last column of a glyph has no ink.
             let advance = i64::from(GLYPH_W) * drawn(units.as_slice()) as i64;
             (dc, [Stretch::plain(x, advance - 1), Stretch::plain(y, GLYPH_H.into())])
         }
@@ -157,7 +156,7 @@ fn seen(call: &Call, device: &Device) -> Option<[Axis; 2]> {
     boxed(stretches, sides(dc)?)
 }
 
-/// What a resize came to.
+/// The kind of a resize, by its result.
 fn resized(outcome: &Outcome, [width, height]: [u32; 2]) -> &'static str {
     let old = bytes_of(outcome.panel[0], outcome.panel[1]);
     match outcome.refusal {

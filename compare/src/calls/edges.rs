@@ -1,4 +1,4 @@
-//! Short scripts at the edges of the format.
+//! Short scripts at the limits of the format.
 
 use pocket_kernel::gdi::rop3::{DSTINVERT, SRCCOPY};
 use pocket_kernel::gdi::GDI_SCREEN_DC;
@@ -8,17 +8,17 @@ use super::paint::drawn;
 use super::script::{Header, MOST_PANEL, MOST_STORE};
 use super::step::LOOK;
 
-/// A header whose memories are just long enough.
+/// A header whose memories have the least length that open accepts.
 const SMALL: Header = Header { panel_len: 8, store_len: 2, width: 2, height: 2, fill: 0xA5 };
 
-/// Headers, calls and opens that are just good, or just not.
+/// Headers, calls and opens that are just accepted, or just not.
 pub fn scripts() -> Vec<Vec<u8>> {
     let mut scripts = vec![twelve_bytes(), long_texts()];
     scripts.extend(headers().iter().map(Header::bytes));
     let small = SMALL.bytes();
     scripts.extend((0..small.len()).map(|len| small[..len].to_vec()));
     scripts.extend((0..4).map(|at| [&small[..at], b"i", &small[at + 1..]].concat()));
-    // Each byte where a call should begin, and nothing behind it.
+    // Each byte as the first byte of a call, with nothing after it.
     scripts.extend((0..=u8::MAX).map(|byte| [&small[..], &[0x01, byte]].concat()));
     scripts.extend(looks());
     for call in with_arguments() {
@@ -37,8 +37,9 @@ fn panel_fill(word: u32) -> Call {
     Call::PanelFill { word }
 }
 
-/// Looks before all calls, in a row, between calls and behind them; right before
-/// a bad call and behind it; the byte as an argument; looks without a device.
+/// Looks before all calls, twice in a row, between calls and after them; directly
+/// before a bad call and after it; the look's byte as an argument; looks where no
+/// device is open.
 fn looks() -> Vec<Vec<u8>> {
     let fill = panel_fill(0x7F7F).bytes();
     let steps = [
@@ -57,8 +58,8 @@ fn looks() -> Vec<Vec<u8>> {
     scripts
 }
 
-/// As many units as are accepted, and one more; a stop behind so many and before.
-/// The last unit that is drawn is in sight.
+/// The most units that are accepted, and one more; unit 0 after that many, and
+/// before. The last unit that is drawn is visible.
 fn long_texts() -> Vec<u8> {
     let header = Header { panel_len: 2 * 24 * 8, width: 24, height: 8, ..SMALL };
     let mut script = header.bytes();
@@ -107,7 +108,8 @@ fn headers() -> Vec<Header> {
     headers
 }
 
-/// Each call that has arguments; then modes and panel fills that there are not.
+/// Each call that has arguments; then background modes and panel fills out of
+/// range.
 fn with_arguments() -> Vec<Call> {
     let (x, y, w, h, sx, sy) = (0, 1, 2, 1, 0, 0);
     let (dc, color) = (GDI_SCREEN_DC, 0x0102_0304);

@@ -11,19 +11,19 @@ use super::call::Call;
 use super::handle::STOCK;
 use super::step::Step;
 
-/// What is left of the store for the examples of `room`: two bitmaps with the
+/// How many bytes of the store the examples of `room` need: two bitmaps with the
 /// longest side, and 14 bytes.
 pub const ROOM: u32 = 2 * 8192 + 14;
 
-/// Every call that draws nothing, every kind of answer, and as many objects as
-/// there can be, which are all deleted.
+/// Every call that does not draw, every kind of answer, and the most objects that
+/// there can be. At the end all objects are deleted.
 pub fn steps() -> Vec<Step> {
     List::of(GDI_HANDLE_BASE, &[settings, selections, removals, crowd])
 }
 
-/// Sides past the limit, and bitmaps that just fit the store or just do not, on
-/// a device with `ROOM` bytes left whose next handle this is. At the end four
-/// bytes of the store are left, which a bitmap had.
+/// Sides above the limit, and bitmaps that just fit the store or just do not, on a
+/// device with `ROOM` free bytes and this next handle. At the end four bytes of the
+/// store are free, which a bitmap had before.
 pub fn room(next: u32) -> Vec<Step> {
     let mut list = List::new(next);
     for side in [4097, 0x1_0000, 0x8000_0000, u32::MAX] {
@@ -35,22 +35,22 @@ pub fn room(next: u32) -> Vec<Step> {
     list.add([bitmap(2, 4)]);
     let last = list.create(bitmap(1, 7));
     list.add([bitmap(0, 0), delete(wide), bitmap(4096, 2)]);
-    // The other two have moved down; the new one is behind them.
+    // The other two have moved down; the new one follows them.
     list.create(bitmap(64, 64));
     list.add([bitmap(1, 1), remove(last)]);
     let before = list.create(bitmap(1, 2));
-    // As much is left as on a fresh device with a store of 12 bytes.
+    // As many bytes are free as on a fresh device with a store of 12 bytes.
     list.add([bitmap(1, 6)]);
     let last = list.create(bitmap(0, 5));
     list.add([bitmap(1, 1)]);
-    // A white bitmap at the end of the store moves down, and leaves black bytes.
+    // A white bitmap at the end of the store moves down, and the bytes that it leaves become 0.
     let dc = list.create(Call::CreateMemoryDc {});
     let white = Call::PatternFill { dc, x: 0, y: 0, w: 1, h: 5, code: PATCOPY };
     list.add([select(dc, last), white, delete(before)]);
     list.steps
 }
 
-/// Steps, and the handle that the next creation gives.
+/// Steps, and the handle that the next create call returns.
 pub struct List {
     pub steps: Vec<Step>,
     pub next: u32,
@@ -61,7 +61,7 @@ impl List {
         Self { steps: Vec::new(), next }
     }
 
-    /// The steps of some parts, with a look at the end of each.
+    /// The steps of these parts, with a look after each part.
     pub fn of(next: u32, parts: &[fn(&mut List)]) -> Vec<Step> {
         let mut list = List::new(next);
         for part in parts {
@@ -79,7 +79,7 @@ impl List {
         self.steps.push(Step::Look);
     }
 
-    /// Adds a creation that is accepted; its handle.
+    /// Adds a create call that is accepted. Returns its handle.
     pub fn create(&mut self, call: Call) -> u32 {
         self.add([call]);
         self.next += 1;
@@ -115,7 +115,7 @@ pub fn remove(handle: u32) -> Call {
     Call::Remove { handle }
 }
 
-/// All four settings of a DC.
+/// The four settings of a DC.
 fn set(dc: u32, value: u32, transparent: u32) -> [Call; 4] {
     [
         Call::SetTextColor { dc, color: value },
@@ -125,8 +125,8 @@ fn set(dc: u32, value: u32, transparent: u32) -> [Call; 4] {
     ]
 }
 
-/// Settings of the screen DC and of a created one, each answered by the next;
-/// then of handles that are no DC.
+/// Settings of the screen DC and of a created one, each set twice so that the
+/// second answer shows the first value; then of handles that are no DC.
 fn settings(list: &mut List) {
     list.add(set(GDI_SCREEN_DC, 0x0012_3456, 1));
     list.add(set(GDI_SCREEN_DC, 0xFFFF_FFF0, 1));
@@ -141,8 +141,8 @@ fn settings(list: &mut List) {
     list.add(set(dc, 7, 1));
 }
 
-/// Every kind selected into both kinds of DC, for the first and the second time;
-/// then what cannot be selected, and what is gone.
+/// Every kind of object selected into both kinds of DC, for the first and the
+/// second time; then handles that cannot be selected, and deleted objects.
 fn selections(list: &mut List) {
     let dc = list.create(Call::CreateMemoryDc {});
     let first = [bitmap(0, 5), brush(0x0011_2233), pen(0xFF44_5566, 3), font(-12)];
@@ -157,7 +157,7 @@ fn selections(list: &mut List) {
         for object in [dc, GDI_SCREEN_DC, 0, list.next] {
             list.add([select(dc, object)]);
         }
-        // Deleted while it is selected; the DC keeps handle and colour.
+        // The object is deleted while it is selected; the DC keeps its handle and colour.
         list.add(first.map(|object| select(dc, object)));
     }
     for absent in [0, first[0], first[1], STOCK_WHITE_BRUSH, list.next] {
@@ -170,7 +170,7 @@ fn selections(list: &mut List) {
     list.add(second.map(delete));
 }
 
-/// Stock handles, which stay; then an object of every kind removed, and again.
+/// Stock handles, which stay; then an object of every kind, removed twice.
 fn removals(list: &mut List) {
     for stock in STOCK {
         list.add([delete(stock), remove(stock)]);
@@ -187,7 +187,7 @@ fn removals(list: &mut List) {
     }
 }
 
-/// As many objects as there can be, which are looked at, and one more of each kind.
+/// The most objects that there can be, then a look, then one more of each kind.
 fn crowd(list: &mut List) {
     let first = list.create(bitmap(2, 2));
     for number in 1..MAX_OBJECTS as u32 {

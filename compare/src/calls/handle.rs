@@ -1,5 +1,5 @@
-//! Random handles: of live objects, mostly of the kind that a call wants, of
-//! stock ones, and of none.
+//! Random handles: mostly of live objects of the kind that a call needs, else of
+//! stock objects or of no object.
 
 use pocket_kernel::gdi::{self, GdiObject, GDI_HANDLE_BASE, GDI_SCREEN_DC};
 
@@ -21,7 +21,7 @@ pub const STOCK: [u32; 12] = [
     gdi::STOCK_DEFAULT_BITMAP,
 ];
 
-/// Mostly a created DC or the screen's.
+/// Mostly a created DC or the screen DC.
 pub fn a_dc(rng: &mut Rng, device: &Device) -> u32 {
     match rng.below(20) {
         0 => live(rng, device, |_| true),
@@ -31,7 +31,8 @@ pub fn a_dc(rng: &mut Rng, device: &Device) -> u32 {
     }
 }
 
-/// A DC to select the object into: for a bitmap at times one without a surface.
+/// A DC to select the object into. For a bitmap it is sometimes one without a
+/// surface.
 pub fn dc_for(rng: &mut Rng, device: &Device, object: u32) -> u32 {
     if device.gdi().bitmap(object).is_some() && rng.one_in(2) {
         created(rng, device, |handle| device.place(handle) == Err(2))
@@ -40,7 +41,7 @@ pub fn dc_for(rng: &mut Rng, device: &Device, object: u32) -> u32 {
     }
 }
 
-/// Mostly a DC that has a surface: the screen's, or one with a live bitmap.
+/// Mostly a DC that has a surface: the screen DC, or one with a live bitmap.
 pub fn with_surface(rng: &mut Rng, device: &Device) -> u32 {
     match rng.below(24) {
         0 => live(rng, device, |_| true),
@@ -51,7 +52,7 @@ pub fn with_surface(rng: &mut Rng, device: &Device) -> u32 {
     }
 }
 
-/// A blit's source: the target, the screen DC, one with another surface, or any.
+/// A blit's source: the target, the screen DC, a DC with another surface, or any.
 pub fn source(rng: &mut Rng, device: &Device, target: u32) -> u32 {
     let another =
         |handle| device.place(handle).is_ok() && device.place(handle) != device.place(target);
@@ -80,7 +81,7 @@ pub fn any_object(rng: &mut Rng, device: &Device) -> u32 {
     match rng.below(20) {
         0..=2 => other(rng, device),
         3 | 4 => rng.pick(&STOCK),
-        // The first and the last one.
+        // The first and the last created object.
         5 => device.created().first().copied().unwrap_or_default(),
         6 => device.created().last().copied().unwrap_or_default(),
         7..=10 => live(rng, device, |object| matches!(object, GdiObject::Bitmap(_))),
@@ -97,7 +98,7 @@ fn live(rng: &mut Rng, device: &Device, kind: fn(&GdiObject) -> bool) -> u32 {
     created(rng, device, |handle| device.gdi().get(handle).is_some_and(kind))
 }
 
-/// The same by handle.
+/// A created object whose handle is wanted; the screen DC if there is none.
 fn created(rng: &mut Rng, device: &Device, wanted: impl Fn(u32) -> bool) -> u32 {
     let created = device.created().iter().copied();
     let created: Vec<u32> = created.filter(|&handle| wanted(handle)).collect();
@@ -108,7 +109,7 @@ fn created(rng: &mut Rng, device: &Device, wanted: impl Fn(u32) -> bool) -> u32 
     }
 }
 
-/// Mostly the handle of an object that is gone or not yet there.
+/// Mostly the handle of an object that was deleted or is not created yet.
 fn other(rng: &mut Rng, device: &Device) -> u32 {
     let next = device.next();
     match rng.below(6) {

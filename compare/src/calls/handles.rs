@@ -1,4 +1,4 @@
-//! A script that is given more handles than there are before the stock ones.
+//! A script that creates so many objects that their handles pass the stock ones.
 
 use pocket_kernel::gdi::{GDI_HANDLE_BASE, GDI_SCREEN_DC};
 
@@ -7,18 +7,18 @@ use super::handle::STOCK;
 use super::script::Header;
 use super::step::Step;
 
-/// The handles that the script is given: more than the 18,177 from 0xDEAD_1000
-/// to 0xDEAD_5700, after which the first stock handle is the next.
+/// How many objects the script creates: more than the 18,177 whose handles are
+/// 0xDEAD_1000 to 0xDEAD_5700. The first stock handle follows.
 const GIVEN: u32 = 18_400;
-/// From this many on objects of every kind stay, so that there are some on both
-/// sides of each stock handle.
+/// From this object on the script keeps what it creates, so that there are live
+/// handles on both sides of each stock handle.
 const STAYING: u32 = 18_170;
-/// So many of them are followed by a look: up to the last stock handle and past it.
+/// After how many of these there is a look: up to the last stock handle and past it.
 const LOOKED_AT: u32 = 40;
 
-/// Brushes made and deleted up to the stock handles, then objects that stay, with
-/// looks while the next handle goes past the stock ones. At the end each stock
-/// object is selected into a DC, to show that it is as ever.
+/// Creates and deletes brushes up to the stock handles, then creates objects and
+/// keeps them, with looks while the next handle passes the stock ones. At the end
+/// each stock object is selected into a DC, to show that it is unchanged.
 pub fn handles() -> Vec<u8> {
     let dcs = STOCK.len() as u32;
     let mut steps = Vec::new();
@@ -50,7 +50,8 @@ pub fn handles() -> Vec<u8> {
     script
 }
 
-/// A DC to show each stock object, then brushes, then objects of every kind.
+/// The creation of this number: first a DC for each stock object, then brushes,
+/// then objects of every kind.
 fn creation(given: u32) -> Call {
     if given < STOCK.len() as u32 {
         return Call::CreateMemoryDc {};
@@ -80,7 +81,7 @@ mod tests {
         assert_eq!(given[18_176..18_178], ["dead5700", "dead570a"]);
         assert_eq!(given[18_182..18_186], ["dead570f", "dead5711", "dead5712", "dead5713"]);
         assert!(!lines.contains("bad call"));
-        // A look tells the number held, also if it is a stock handle.
+        // A look prints the next handle even if it is a stock handle.
         for next in ["dead5701", "dead5710", "dead5720", "dead5722"] {
             assert!(lines.contains(&format!("panel 2 2 frames 0 next {next} ")), "{next}");
         }

@@ -1,4 +1,4 @@
-//! What is printed of objects.
+//! How objects are printed.
 
 use pocket_kernel::gdi::{Dc, DcSurface, GdiObject};
 
@@ -16,7 +16,7 @@ pub fn object(object: &GdiObject) -> String {
     }
 }
 
-/// A DC's surface and bitmap, its other handles, colours and alignment, its mode.
+/// A DC's fields: surface, bitmap, other handles, colours, alignment, mode.
 pub fn dc_fields(dc: &Dc) -> String {
     let surface = match dc.surface {
         DcSurface::Screen => "screen",

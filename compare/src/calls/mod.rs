@@ -1,4 +1,4 @@
-//! Calls on a device: the scripts of docs/call-script.md on the original.
+//! Calls on a device: the scripts of docs/call-script.md, run with the original.
 
 mod device;
 mod call;
@@ -35,13 +35,12 @@ pub fn script(seed: u64) -> Vec<u8> {
     random::script(seed, &mut Tally::new())
 }
 
-/// What is printed for the script; an error where a sum of the original
-/// overflows.
+/// What is printed for the script; an error if a sum of the original overflows.
 pub fn answers(script: &[u8]) -> Result<String, String> {
     Ok(script::answered(script, &mut Tally::new())?.text())
 }
 
-/// What is printed for a script without such a sum.
+/// What is printed for a script in which no sum overflows.
 #[cfg(test)]
 fn printed(script: &[u8]) -> String {
     answers(script).expect("no sum overflows")

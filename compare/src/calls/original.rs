@@ -6,13 +6,13 @@ use super::call::Call;
 
 /// The original's table of objects.
 ///
-/// It gives handles one after another, and after 0xDEAD_5700 runs into the stock
-/// ones. From there on it is made to pass those that are taken, so that it goes
-/// on with the one that the specification's rule gives.
+/// The original gives handles one after another, and after 0xDEAD_5700 gives the
+/// stock ones. From there on this type makes it skip the handles that are taken,
+/// so that its next handle is that of the specification's rule.
 pub struct Original {
     pub gdi: GdiState,
-    /// The handle that it gives next, which it does not show. Whenever it gives
-    /// one, it is asserted to be this.
+    /// The next handle. The original does not show it; whenever it gives a handle,
+    /// an assertion checks that it is this one.
     pub next: u32,
 }
 
@@ -21,7 +21,7 @@ impl Original {
         Self { gdi: GdiState::new(), next: GDI_HANDLE_BASE }
     }
 
-    /// Has it create the object of a create call.
+    /// Makes the original perform a create call.
     pub fn create(&mut self, call: &Call) -> u32 {
         let handle = free(self.next, |handle| self.gdi.get(handle).is_some());
         while self.next != handle {
@@ -30,7 +30,8 @@ impl Original {
         self.create_next(call)
     }
 
-    /// Has it pass a handle that is taken: what is there is put back.
+    /// Makes the original skip a handle that is taken, and puts back the object that
+    /// it replaces.
     fn pass(&mut self) {
         let there = self.gdi.get(self.next).cloned();
         let handle = self.create_next(&Call::CreateFont { height: 0 });
@@ -56,7 +57,7 @@ impl Original {
         handle
     }
 
-    /// Asks it for its next handle, which it tells only by giving it.
+    /// The original's own next handle. It shows it only by creating an object.
     pub fn confirm_next(mut self) {
         self.create_next(&Call::CreateMemoryDc {});
     }
@@ -76,7 +77,7 @@ mod tests {
     use super::*;
     use pocket_kernel::gdi::GdiObject;
 
-    /// The handles that the original has before it runs into the stock ones.
+    /// How many handles the original gives before the stock ones.
     const UNTIL_STOCK: u32 = 18_177;
 
     #[test]

@@ -1,4 +1,4 @@
-//! What a call came to, and how it is printed.
+//! The outcome of a call, and how it is printed.
 
 use std::fmt;
 
@@ -8,12 +8,12 @@ use super::call::Call;
 use super::line;
 use crate::overflow::Overflow;
 
-/// What a call came to; shown as it is printed.
+/// The outcome of a call. `Display` prints its line.
 pub struct Outcome {
-    /// The number of the refusal, 0 if there is none.
+    /// The number of the refusal, 0 if the call is accepted.
     pub refusal: u8,
     pub answer: Answer,
-    /// Whether a pixel is another one now.
+    /// Whether a pixel has changed.
     pub changed: bool,
     /// The panel's sides before the call.
     pub panel: [u32; 2],
@@ -24,9 +24,9 @@ pub enum Answer {
     Number(u32),
     Flag(bool),
     Object(Option<GdiObject>),
-    /// A text's.
+    /// The advance of a text.
     Advance(i32),
-    /// That of a call that answers nothing.
+    /// No answer.
     Nothing,
 }
 
@@ -63,7 +63,7 @@ impl fmt::Display for Outcome {
 }
 
 impl Answer {
-    /// The answer of a call that is refused.
+    /// The answer of a refused call.
     pub fn refused(call: &Call) -> Self {
         match call {
             Call::Delete { .. } | Call::SetBkMode { .. } => Answer::Flag(false),

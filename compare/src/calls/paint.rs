@@ -1,4 +1,4 @@
-//! The calls that draw: on the surface of a DC, and on the panel.
+//! The drawing calls: on the surface of a DC, and on the panel.
 
 use pocket_kernel::font::draw_str_u16;
 use pocket_kernel::framebuffer::colorref_to_rgb565;
@@ -9,10 +9,10 @@ use super::call::Call;
 use super::outcome::{Answer, Stop};
 use crate::overflow::{caught, Overflow};
 
-/// The most units that a text draws.
+/// The most units that a text may have.
 const MAX_DRAWN: usize = 65_535;
 
-/// Where a DC draws.
+/// The surface that a DC draws on.
 #[derive(Clone, Copy, Debug, PartialEq)]
 pub enum Place {
     Panel,
@@ -20,7 +20,7 @@ pub enum Place {
     Bitmap(u32),
 }
 
-/// Where a DC draws, and its colours, packed.
+/// The surface that a DC draws on, and its packed colours.
 struct Target {
     place: Place,
     brush: u16,
@@ -29,7 +29,8 @@ struct Target {
 }
 
 impl Device {
-    /// Where a DC draws, unless refused: 1 no such DC, then 2 no surface.
+    /// The surface that a DC draws on, or a refusal: 1 no such DC, then 2 no
+    /// surface.
     pub fn place(&self, dc: u32) -> Result<Place, u8> {
         let dc = self.gdi().dc(dc).ok_or(1)?;
         match dc.surface {
@@ -60,7 +61,7 @@ impl Device {
         Ok(Target { place, brush, pen, text })
     }
 
-    /// Performs a call that draws.
+    /// Performs a drawing call.
     pub fn draw(&mut self, call: &Call) -> Result<Answer, Stop> {
         match *call {
             Call::PatternFill { dc, x, y, w, h, code } => {
@@ -90,7 +91,7 @@ impl Device {
         Ok(Answer::Nothing)
     }
 
-    /// Draws a text, and marks once if it has a unit. 10 is asked last.
+    /// Draws a text, and marks once if it has a unit. Refusal 10 is the last one.
     fn text(&mut self, dc: u32, x: i32, y: i32, units: &[u16]) -> Result<i32, Stop> {
         let Target { place, text, .. } = self.target(dc)?;
         let drawn = drawn(units);
@@ -107,7 +108,7 @@ impl Device {
         Ok(advance)
     }
 
-    /// Blits; a code that ignores S is a pattern fill and asks for no source.
+    /// Blits. Under a code that does not use S it is a pattern fill without a source.
     fn blit(&mut self, call: &Call) -> Result<(), Stop> {
         let Call::Blit { dc, x, y, w, h, source, sx, sy, code } = *call else {
             unreachable!("{call} is no blit");
@@ -124,7 +125,7 @@ impl Device {
         Ok(())
     }
 
-    /// Resizes the panel. The old panel's bytes are the memory's from then on.
+    /// Resizes the panel. The old panel's bytes are first copied to the memory.
     fn resize(&mut self, width: u32, height: u32) -> Result<(), u8> {
         let effective = width != 0 && height != 0 && [width, height] != self.sides(Place::Panel);
         if effective && width.max(height) > MAX_SIDE {
@@ -147,8 +148,8 @@ impl Device {
         }
     }
 
-    /// Has the original paint on a copy of a surface, which takes its place if no
-    /// sum overflows.
+    /// Makes the original draw on a copy of a surface. The copy replaces the surface
+    /// if no sum overflows.
     fn paint<T>(
         &mut self,
         place: Place,
@@ -190,7 +191,7 @@ mod tests {
     const MEMORY: u32 = 0xDEAD_1000;
     const BITMAP: u32 = 0xDEAD_1001;
 
-    /// A device of 3 by 2 with a memory DC and a bitmap of 3 by 2, which is not
+    /// A device with a panel of 3 by 2, a memory DC, and a bitmap of 3 by 2 that is not
     /// selected yet.
     fn device() -> Device {
         let (refusal, mut device) = Device::open(vec![0xA5; 30], vec![0xA5; 40], 3, 2);
@@ -200,7 +201,7 @@ mod tests {
         device
     }
 
-    /// Performs the call: its refusal and its answer, as printed.
+    /// Performs the call. Returns its refusal and answer, as printed.
     fn perform(device: &mut Device, call: Call) -> String {
         device.perform(&call).expect("no sum overflows").to_string()
     }

@@ -11,7 +11,7 @@ use super::call::Call;
 use super::examples::{bitmap, brush, delete, pen, remove, select, List};
 use super::step::Step;
 
-/// The bytes of the bitmaps that stay.
+/// How many bytes the bitmaps that stay have.
 pub const BYTES: u32 = 2 * (4 * 256 + 20 * 10 + 8 * 6 + 3 + 4 * 3 + 8 * 8 + 2 * 3);
 
 /// Red, green, blue and a few more, as COLORREFs.
@@ -21,8 +21,8 @@ const BLUE: u32 = 0x00FF_0000;
 const AMBER: u32 = 0x0000_A5FF;
 const WHITE: u32 = 0x00FF_FFFF;
 
-/// Every drawing call, every refusal of each, and what can be seen of them in the
-/// end, on a device with a panel memory of 963 bytes whose next handle this is.
+/// Every drawing call and every refusal of each, with their results kept in
+/// bitmaps, on a device with a panel memory of 963 bytes and this next handle.
 pub fn steps(next: u32) -> Vec<Step> {
     List::of(next, &[panel, refusals, tables, boxes, overlaps, ink, moves, stock])
 }
@@ -48,8 +48,8 @@ fn resize(width: u32, height: u32) -> Call {
 }
 
 impl List {
-    /// Selects a brush of this colour into the DC and deletes it: the DC keeps
-    /// the colour.
+    /// Selects a brush of this colour into the DC and deletes the brush. The DC
+    /// keeps the colour.
     fn brush(&mut self, dc: u32, color: u32) {
         let brush = self.create(brush(color));
         self.add([select(dc, brush), delete(brush)]);
@@ -60,7 +60,7 @@ impl List {
         self.add([select(dc, pen), delete(pen)]);
     }
 
-    /// A memory DC and the bitmap that is selected into it.
+    /// A new memory DC and the bitmap that is selected into it.
     fn surface(&mut self, width: u32, height: u32) -> (u32, u32) {
         let dc = self.create(Call::CreateMemoryDc {});
         let bitmap = self.create(bitmap(width, height));
@@ -69,8 +69,8 @@ impl List {
     }
 }
 
-/// Resizes: larger, present, with a side of 0, refused, turned, smaller. The
-/// bytes of the larger panel behind the last one keep their colour.
+/// Resizes: larger, to the present sides, with a side of 0, refused, with the sides
+/// exchanged, smaller. Bytes of the larger panel past the smaller one are kept.
 fn panel(list: &mut List) {
     list.add([
         resize(3, 2),
@@ -92,8 +92,8 @@ fn panel(list: &mut List) {
     ]);
 }
 
-/// All calls that draw through a DC, the blits from another one: under a code
-/// that uses S, with an empty box, under one that ignores it.
+/// All calls that draw on a DC. The blits are from another DC: under a code that
+/// uses S, with an empty box, under a code that does not use S.
 fn through(dc: u32, source: u32) -> [Call; 7] {
     let at = [20, 14, 2, 1];
     [
@@ -107,8 +107,8 @@ fn through(dc: u32, source: u32) -> [Call; 7] {
     ]
 }
 
-/// Refusals 1 to 4 in their order: a DC that is none, one without a surface, one
-/// whose bitmap is gone; each as target and as source.
+/// Refusals 1 to 4 in their order: an absent DC, a DC without a surface, a DC whose
+/// bitmap was deleted; each as target and as source.
 fn refusals(list: &mut List) {
     let screen = GDI_SCREEN_DC;
     let none = list.create(Call::CreateMemoryDc {});
@@ -131,8 +131,8 @@ fn refusals(list: &mut List) {
     list.add([delete(none), delete(gone), delete(made)]);
 }
 
-/// Every table in a pixel of its own: as a fill, as a blit from an absent source,
-/// which those that use S refuse, and as a blit.
+/// Every table, each in its own pixel: as a fill, as a blit from an absent source,
+/// which is refused if the table uses S, and as a blit.
 fn tables(list: &mut List) {
     let (source, _) = list.surface(16, 16);
     list.brush(source, colorref(0x0F0F));
@@ -158,11 +158,11 @@ fn colorref(word: u16) -> u32 {
     (word & 0x1F) << 19 | (word >> 5 & 0x3F) << 10 | word >> 11 << 3
 }
 
-/// Boxes on a bitmap and on the panel: in sight, cut at each side, out of sight,
-/// empty, at the ends of 32 bits. A rectangle has two marks, one, or none.
+/// Boxes on a bitmap and on the panel: visible, cut at each side, not visible,
+/// empty, at the ends of 32 bits. A rectangle makes two marks, one, or none.
 fn boxes(list: &mut List) {
     let (dc, bitmap) = list.surface(8, 6);
-    // What is selected into the screen DC does not matter.
+    // A bitmap that is selected into the screen DC has no effect.
     list.add([select(GDI_SCREEN_DC, bitmap)]);
     for dc in [GDI_SCREEN_DC, dc] {
         list.brush(dc, BLUE);
@@ -193,8 +193,8 @@ fn boxes(list: &mut List) {
     }
 }
 
-/// Three pixels in a row, moved right and left, in the panel and in a bitmap:
-/// a a b, and then a b b. Then blocks moved down, up and aslant, between two
+/// Three pixels in a row, moved right and left, on the panel and in a bitmap:
+/// a a b, then a b b. Then blocks moved down, up and diagonally, between two
 /// bitmaps, and between a bitmap and the panel.
 fn overlaps(list: &mut List) {
     let (dc, _) = list.surface(3, 1);
@@ -226,8 +226,8 @@ fn overlaps(list: &mut List) {
     ]);
 }
 
-/// Texts on 20 by 10: cut at each side, stopped, with units that have no glyph,
-/// out of sight, without a unit.
+/// Texts on 20 by 10: cut at each side, ended by unit 0, with units that have no
+/// glyph, not visible, without a unit.
 fn ink(list: &mut List) {
     let (dc, _) = list.surface(20, 10);
     list.add([text(dc, 0, 0, "!"), Call::SetTextColor { dc, color: AMBER }]);
@@ -245,8 +245,8 @@ fn ink(list: &mut List) {
     ]);
 }
 
-/// Three drawn bitmaps, of which the second and then the first goes: the third
-/// moves down with its colours and is drawn on again.
+/// Three drawn bitmaps. The second and then the first is deleted; the third moves
+/// down with its colours and is drawn on again.
 fn moves(list: &mut List) {
     let sides = [(3, 2), (5, 5), (8, 8)];
     let [first, second, third] = sides.map(|(width, height)| list.surface(width, height));
@@ -265,11 +265,11 @@ fn moves(list: &mut List) {
         blit(GDI_SCREEN_DC, [16, 2, 8, 8], dc, [0, 0], SRCCOPY),
         blit(GDI_SCREEN_DC, [16, 2, 8, 8], first.0, [0, 0], SRCCOPY),
     ]);
-    // As black as any new one, on bytes that a bitmap had.
+    // A new bitmap is black, also on bytes that another bitmap had.
     list.surface(2, 3);
 }
 
-/// The stock bitmap, filled, outlined, written on and blitted both ways.
+/// The stock bitmap: filled, outlined, written on, and blitted both ways.
 fn stock(list: &mut List) {
     let dc = list.create(Call::CreateMemoryDc {});
     list.add([

@@ -1,4 +1,4 @@
-//! Random call scripts: calls that follow what is live on a device.
+//! Random call scripts. The calls depend on what is live on the device.
 
 use super::device::{bytes_of, Device, MAX_OBJECTS, MAX_SIDE};
 use super::call::{Call, MAX_UNITS};
@@ -15,16 +15,16 @@ use crate::span::{moved, near, outline, span, Span};
 
 /// More objects than a device can hold.
 const CROWD: usize = 300;
-/// On a small device a look follows one call in so many.
+/// On a small device a look follows one call in this many.
 const CALLS_PER_LOOK: usize = 10;
-/// The same for calls that move bitmaps or turn the panel black.
+/// The same for calls that move bitmaps or make the panel black.
 const MOVES_PER_LOOK: usize = 2;
-/// So many bytes of memory make looks half as frequent, as do so many objects.
+/// Memories of this many bytes, or this many objects, make looks half as frequent.
 const MANY_BYTES: usize = 250_000;
 const MANY_OBJECTS: usize = 64;
 
-/// The script that the seed makes: mostly 60 to 400 calls on a device that opens,
-/// with looks between them. Of the tally only the calls that are dropped.
+/// The script of a seed: mostly 60 to 400 calls on a device that opens, with looks
+/// between them. It adds only the dropped calls to the tally.
 pub fn script(seed: u64, tally: &mut Tally) -> Vec<u8> {
     let mut rng = Rng::new(seed);
     let header = header(&mut rng);
@@ -41,10 +41,10 @@ pub fn script(seed: u64, tally: &mut Tally) -> Vec<u8> {
     spoil(&mut rng, header, &steps)
 }
 
-/// Calls on the device, which performs them, about a number of live objects that
-/// changes at times; a look follows those that are to be looked at. Calls that
-/// are not wanted are left out, and dropped those where a sum of the original
-/// overflows; their number.
+/// Random calls, which the device performs, with a look after some of them. They
+/// keep the number of live objects near a target that changes from time to time.
+/// Calls that are not wanted are left out. Calls in which a sum of the original
+/// overflows are dropped; their number is returned too.
 pub fn steps(
     rng: &mut Rng,
     device: &mut Device,
@@ -74,8 +74,8 @@ pub fn steps(
     (steps, dropped)
 }
 
-/// Whether a look follows the call: the more it has to print and to take the CRC
-/// of, the less often.
+/// Whether a look follows the call. Looks are rarer the more they have to print and
+/// to compute a CRC of.
 fn looked_at(rng: &mut Rng, device: &Device, call: &Call) -> bool {
     let calls = match call {
         Call::Delete { .. } | Call::Remove { .. } | Call::Resize { .. } => MOVES_PER_LOOK,
@@ -111,7 +111,8 @@ fn header(rng: &mut Rng) -> Header {
     Header { panel_len, store_len: store_len(rng), width, height, fill: rng.pick(&fill) }
 }
 
-/// From just the stock bitmap's bytes to enough for many.
+/// A length of the store: from the stock bitmap's bytes alone to enough for many
+/// bitmaps.
 fn store_len(rng: &mut Rng) -> u32 {
     let len = match rng.below(48) {
         0 => rng.between(70_000, MOST_STORE.into()),
@@ -133,7 +134,7 @@ fn call(rng: &mut Rng, device: &Device, goal: usize) -> Call {
     } else {
         (6, 20)
     };
-    // On the way to a crowd few bitmaps, which may not fit the store.
+    // On the way to many objects there are few bitmaps, since they may not fit the store.
     let bitmap = if goal == CROWD && live < MAX_OBJECTS { create / 2 } else { 3 * create };
     let kinds = [
         (0x01, 2 * create),
@@ -189,8 +190,8 @@ fn of_kind(rng: &mut Rng, device: &Device, kind: u8) -> Call {
     }
 }
 
-/// A bitmap's sides: small, as much as is left or a little more, at the limits,
-/// past them.
+/// A bitmap's sides: small, as large as the free bytes allow or a little larger, at
+/// the limits, above them.
 fn sides(rng: &mut Rng, device: &Device) -> (u32, u32) {
     let small = |rng: &mut Rng| rng.between(1, 16) as u32;
     let limit = [0, 1, 4095, 4096, 4097, 0x1_0000, 0x1_0001, 0x8000_0000, u32::MAX];
@@ -226,7 +227,7 @@ fn number(rng: &mut Rng) -> u32 {
     }
 }
 
-/// The sides to draw on: those of a DC's surface, else the panel's.
+/// The sides to draw on: those of a DC's surface, or the panel's if it has none.
 fn sides_of(device: &Device, dc: u32) -> [i64; 2] {
     let place = device.place(dc).unwrap_or(Place::Panel);
     device.sides(place).map(|side| i64::from(side).max(1))
@@ -251,7 +252,7 @@ fn rectangle(rng: &mut Rng, device: &Device) -> Call {
     Call::Rectangle { dc, x: x.begin, y: y.begin, w: x.len, h: y.len }
 }
 
-/// A stretch that begins on the side or just before it.
+/// A span that starts on the side or just before it.
 fn short(rng: &mut Rng, side: i64) -> Span {
     let (begin, len) = (rng.between(-2, side - 1), rng.between(1, side + 2));
     Span { begin: begin as i32, from: 0, len: len as i32 }
@@ -265,8 +266,8 @@ fn text(rng: &mut Rng, device: &Device) -> Call {
     Call::text(dc, x, y, units)
 }
 
-/// A few units, some more than fit the surface, seldom about as many as are
-/// accepted or can be.
+/// A few units, sometimes more than fit the surface, rarely about as many as are
+/// accepted or as a script can have.
 fn units(rng: &mut Rng, width: i64) -> Vec<u16> {
     let count = match rng.below(160) {
         0 => return many(rng),
@@ -278,8 +279,8 @@ fn units(rng: &mut Rng, width: i64) -> Vec<u16> {
     (0..count).map(|_| unit(rng)).collect()
 }
 
-/// About as many units as are accepted or can be, going round a few; at times
-/// with a stop.
+/// About as many units as are accepted or as a script can have: a few units,
+/// repeated; sometimes with a unit 0.
 fn many(rng: &mut Rng) -> Vec<u16> {
     let count = rng.pick(&[65_534, 65_535, 65_536, 65_537, MAX_UNITS - 1, MAX_UNITS]);
     let few: Vec<u16> = (0..rng.between(1, 5)).map(|_| unit(rng)).collect();
@@ -290,8 +291,8 @@ fn many(rng: &mut Rng) -> Vec<u16> {
     units
 }
 
-/// Mostly sides that the panel memory has room for; else a little more, the
-/// present ones, 0, past the limit.
+/// Sides for a resize: mostly such that the panel fits its memory, else a little
+/// larger, the present ones, 0, or above the limit.
 fn resize(rng: &mut Rng, device: &Device) -> Call {
     let [width, height] = device.sides(Place::Panel);
     let over = rng.pick(&[4097, 5000, 0x1_0000, 0x8000_0000, u32::MAX]);

@@ -1,4 +1,4 @@
-//! The comparison: call scripts, the original against a program.
+//! Compares a program with the original on call scripts.
 
 use super::drawing::drawing;
 use super::edges;
@@ -10,13 +10,13 @@ use super::step::Step;
 use super::tally::Tally;
 use crate::program::{self, hexadecimal, Progress};
 
-/// The bytes of a call that are shown.
+/// How many bytes of a call are shown.
 const SHOWN: usize = 512;
-/// The drawing of the repository.
+/// The path of the repository's drawing.
 const SERVICE: &str = include_str!("../../../drawings/service.txt");
 
 /// Compares the scripts at the edges and `count` random ones, each from the next
-/// seed. True if all lines are equal; else the first difference has been printed.
+/// seed. True if all lines are equal; otherwise it prints the first difference.
 pub fn run(program: &str, count: u64, first: u64) -> Result<bool, String> {
     let mut tally = Tally::new();
     let edges = edges::scripts();
@@ -40,7 +40,7 @@ pub fn run(program: &str, count: u64, first: u64) -> Result<bool, String> {
     Ok(true)
 }
 
-/// Compares the script that goes past the stock handles.
+/// Compares the script whose handles pass the stock ones.
 pub fn run_handles(program: &str) -> Result<bool, String> {
     let mut tally = Tally::new();
     let equal = compare(program, &handles(), "handles", &mut tally)?;
@@ -52,7 +52,7 @@ pub fn run_handles(program: &str) -> Result<bool, String> {
 
 /// Compares the pictures of the fixed sample, of the repository's drawing and of
 /// `count` random scripts, each from the next seed. True if every byte is equal;
-/// else the first difference has been printed.
+/// otherwise it prints the first difference.
 pub fn run_pictures(program: &str, count: u64, first: u64) -> Result<bool, String> {
     let service = drawing(SERVICE).map_err(|error| format!("drawings/service.txt: {error}"))?;
     let fixed = [("sample".into(), sample().0), ("service".into(), service)];
@@ -84,8 +84,8 @@ fn compare(program: &str, script: &[u8], name: &str, tally: &mut Tally) -> Resul
     program::compare(program, script, &answered.lines, |at| shown(&answered, at), name)
 }
 
-/// What a line is about, for people. Where a state differs, each call since the
-/// last state that was equal may be to blame.
+/// A description of what a line belongs to. If state lines differ, it lists the
+/// calls since the last equal state.
 fn shown(answered: &Answered, at: usize) -> String {
     let steps = &answered.steps;
     let index = steps.iter().position(|done| done.lines.contains(&at));
@@ -100,7 +100,7 @@ fn shown(answered: &Answered, at: usize) -> String {
     }
 }
 
-/// The calls behind the last look.
+/// The calls after the last look.
 fn since_look(steps: &[Performed]) -> String {
     let calls = steps.iter().rev().map_while(|done| match &done.step {
         Step::Call(call) => Some(format!("\n          {call}")),
@@ -111,7 +111,7 @@ fn since_look(steps: &[Performed]) -> String {
     format!("calls since the last look: {}{}", calls.len(), calls.concat())
 }
 
-/// The bytes in hexadecimal, of a long text only the first.
+/// The bytes in hexadecimal; only the first ones if there are many.
 fn begin(bytes: &[u8]) -> String {
     match bytes.get(..SHOWN) {
         Some(first) => format!("{}..", hexadecimal(first)),

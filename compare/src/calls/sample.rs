@@ -1,4 +1,4 @@
-//! The fixed call script that is replayed at every change.
+//! The fixed call script, which the gate replays.
 
 use pocket_kernel::gdi::rop3::SRCINVERT;
 use pocket_kernel::gdi::GDI_SCREEN_DC;
@@ -13,18 +13,18 @@ use super::step::Step;
 use super::tally::Tally;
 use crate::rng::Rng;
 
-/// Random calls between the examples.
+/// How many random calls there are between the examples.
 const RANDOM: usize = 3000;
-/// The units of the longest text among them.
+/// How many units the longest text among them has.
 const LONGEST_TEXT: usize = 60;
-/// Bytes at the store's end that no random call touches, so that the bitmaps of
-/// the last examples are seen to be black.
+/// How many bytes at the store's end no random call uses, so that the last examples
+/// show that their bitmaps become black.
 const UNTOUCHED: u64 = 8000;
 /// The sides of the bitmap that shows what the random calls drew.
 const SHOWN: u32 = 32;
 
-/// The sample's device: bytes past the panel, and a store for the bitmaps that
-/// stay and for the last examples.
+/// The sample's device: a panel memory longer than the panel, and a store for the
+/// bitmaps that stay and for the last examples.
 const HEADER: Header = Header {
     panel_len: 963,
     store_len: 2 + 2 * SHOWN * SHOWN + pictures::BYTES + ROOM,
@@ -38,7 +38,7 @@ pub fn sample() -> (Vec<u8>, String, Tally) {
     script_with(RANDOM)
 }
 
-/// The same with so many random calls.
+/// The same with this many random calls.
 fn script_with(random: usize) -> (Vec<u8>, String, Tally) {
     let mut made = Made { steps: Vec::new(), device: HEADER.open().1 };
     made.perform(examples::steps());
@@ -75,7 +75,7 @@ impl Made {
     }
 }
 
-/// Whether a random call has its place in the sample.
+/// Whether a random call may be part of the sample.
 fn wanted(device: &Device, call: &Call) -> bool {
     match *call {
         Call::CreateCompatibleBitmap { width, height } if width.max(height) <= MAX_SIDE => {
@@ -87,8 +87,8 @@ fn wanted(device: &Device, call: &Call) -> bool {
     }
 }
 
-/// Gathers what is on the panel and on every bitmap in one bitmap, and deletes
-/// all other objects.
+/// Copies the panel and every bitmap into one bitmap, and deletes all other
+/// objects.
 fn shown(device: &Device) -> Vec<Step> {
     let is_bitmap = |handle: &u32| device.gdi().bitmap(*handle).is_some();
     let (bitmaps, others): (Vec<u32>, Vec<u32>) =

@@ -9,27 +9,27 @@ use crate::argument::Argument;
 use crate::overflow::Overflow;
 
 const MAGIC: &[u8; 4] = b"GDI1";
-/// The bytes of a header.
+/// How many bytes a header has.
 pub const HEADER: usize = 21;
 /// The length of the longest script.
 pub const LONGEST: usize = 1_048_576;
-/// The longest panel memory and store that the program serves.
+/// The longest panel memory and store that the program accepts.
 pub const MOST_PANEL: u32 = 1_048_576;
 pub const MOST_STORE: u32 = 4_194_304;
 
-/// What a script asks to be opened.
+/// The header of a script: the arguments of open.
 #[derive(Clone, Copy, Debug, PartialEq)]
 pub struct Header {
     pub panel_len: u32,
     pub store_len: u32,
     pub width: u32,
     pub height: u32,
-    /// Both memories are filled with it before.
+    /// The byte that fills both memories before open.
     pub fill: u8,
 }
 
 impl Header {
-    /// Takes the header off the front of a script; `None` if it is short or wrong.
+    /// Reads the header from the front of a script; `None` if it is short or wrong.
     fn read(script: &mut &[u8]) -> Option<Header> {
         *script = script.strip_prefix(MAGIC)?;
         Some(Header {
@@ -60,13 +60,13 @@ impl Header {
     }
 }
 
-/// What is printed for a script, and the steps that it was printed for.
+/// The lines of a script, and its steps.
 pub struct Answered {
     pub lines: Vec<String>,
     pub steps: Vec<Performed>,
 }
 
-/// A step, and which lines are its own: one for a call, some for a look.
+/// A step with its lines: one for a call, several for a look.
 pub struct Performed {
     pub step: Step,
     pub lines: Range<usize>,
@@ -80,30 +80,30 @@ impl Answered {
         self.steps.push(Performed { step, lines: first..self.lines.len() });
     }
 
-    /// The lines as they are printed.
+    /// The lines, each with its end.
     pub fn text(&self) -> String {
         self.lines.iter().flat_map(|line| [line, "\n"]).collect()
     }
 }
 
-/// A script under way: what it has come to so far.
+/// A script that is being performed, and its lines so far.
 struct Session {
     answered: Answered,
-    /// The device, if the header is a good one, and whether it was opened.
+    /// The device, if the header is good, and whether it is open.
     device: Option<Device>,
     opened: bool,
 }
 
 impl Session {
-    /// A session that has come to its first line.
+    /// A session whose first line is printed.
     fn begun(line: String, device: Option<Device>, tally: &mut Tally) -> Self {
         tally.begin(&line);
         let opened = line == "open 0";
         Self { answered: Answered { lines: vec![line], steps: Vec::new() }, device, opened }
     }
 
-    /// Reads a script and has the original perform it; an error where a sum of
-    /// the original overflows.
+    /// Reads a script and performs it with the original; an error if a sum of the
+    /// original overflows.
     fn run(script: &[u8], tally: &mut Tally) -> Result<Self, String> {
         let mut rest = script;
         let header = Header::read(&mut rest).filter(|_| script.len() <= LONGEST);
@@ -121,7 +121,7 @@ impl Session {
         Ok(session)
     }
 
-    /// Performs steps up to the end or a bad call.
+    /// Performs the steps up to the end or a bad call.
     fn perform(&mut self, mut script: &[u8], tally: &mut Tally) -> Result<(), String> {
         let device = self.device.as_mut().expect("a device is open");
         while !script.is_empty() {
@@ -149,7 +149,7 @@ impl Session {
     }
 }
 
-/// What is printed for a script; an error where a sum of the original overflows.
+/// What is printed for a script; an error if a sum of the original overflows.
 pub fn answered(script: &[u8], tally: &mut Tally) -> Result<Answered, String> {
     let Session { mut answered, device, .. } = Session::run(script, tally)?;
     if let Some(device) = device {
@@ -159,8 +159,8 @@ pub fn answered(script: &[u8], tally: &mut Tally) -> Result<Answered, String> {
     Ok(answered)
 }
 
-/// The final panel as a P6 picture, whatever was looked at before; the first line
-/// alone if no device is open.
+/// The final panel as a P6 picture, without the lines of looks; only the first line
+/// if no device is open.
 pub fn picture(script: &[u8]) -> Result<Vec<u8>, String> {
     let Session { answered, device, opened } = Session::run(script, &mut Tally::new())?;
     Ok(match device {
@@ -226,7 +226,7 @@ mod tests {
 
     #[test]
     fn an_opened_device_and_a_refused_one() {
-        // 0 eight and two times, then 0xFF as often.
+        // Zeros for 8 and 2 bytes; then 0xFF for 8 and 2 bytes.
         assert_eq!(printed(&SMALL.bytes()), state("open 0", "2 2", "6522df69 41d912ff"));
         let refused = state("open 6", "0 0", "2144df1c ffff0000");
         let script = [Header { height: 4097, ..SMALL }.bytes(), vec![0x01, 0xFF]].concat();
@@ -261,7 +261,7 @@ mod tests {
         assert_eq!(answered.lines[5..9], answered.lines[9..13]);
         assert_eq!(answered.lines[13], "10 0");
         assert!(answered.lines[14].starts_with("panel 2 2 frames 1 next dead1001 "));
-        // 0xFF eight times, then 0 twice.
+        // 8 bytes of 0xFF, then 2 of 0.
         assert_eq!(answered.lines[17..], ["crc 2144df1c 41d912ff"]);
         let lines: Vec<_> = answered.steps.iter().map(|done| done.lines.clone()).collect();
         assert_eq!(lines, [1..4, 4..5, 5..9, 9..13, 13..14]);
@@ -289,7 +289,7 @@ mod tests {
         let fill = Call::PanelFill { word: 0x6162 }.bytes();
         let script = [SMALL.bytes(), Call::Resize { width: 1, height: 1 }.bytes(), fill].concat();
         assert_eq!(picture(&script).unwrap(), b"P6\n1 1\n255\nc,\x10");
-        // Also of the panel before a bad call; looks are ignored.
+        // A picture is written after a bad call too; looks are ignored.
         let script = [script, vec![LOOK, 0x00, 0x10, LOOK]].concat();
         assert_eq!(picture(&script).unwrap(), b"P6\n1 1\n255\nc,\x10");
         let black = [b"P6\n2 2\n255\n".as_slice(), &[0; 12]].concat();

@@ -1,5 +1,4 @@
-//! Random scripts that are not as they should be: bad headers, refused opens,
-//! bad calls.
+//! Random scripts with an error: bad headers, refused opens, bad calls.
 
 use pocket_kernel::gdi::{rop3, GDI_SCREEN_DC, STOCK_WHITE_BRUSH};
 
@@ -8,7 +7,7 @@ use super::script::{Header, HEADER, MOST_PANEL, MOST_STORE};
 use super::step::{begins_step, Step};
 use crate::rng::Rng;
 
-/// The script of these steps; at times something is wrong with it.
+/// The script of these steps, sometimes with an error.
 pub fn spoil(rng: &mut Rng, header: Header, steps: &[Step]) -> Vec<u8> {
     let header = match rng.below(32) {
         0 => too_large(rng, header),
@@ -29,7 +28,8 @@ pub fn spoil(rng: &mut Rng, header: Header, steps: &[Step]) -> Vec<u8> {
     script
 }
 
-/// A header that asks for more than is served, opened or not.
+/// A header that asks for more memory than the program accepts, with which open
+/// would or would not be refused.
 fn too_large(rng: &mut Rng, mut header: Header) -> Header {
     let more = rng.pick(&[0, 1, 0x0100_0000]);
     match rng.below(4) {
@@ -41,7 +41,7 @@ fn too_large(rng: &mut Rng, mut header: Header) -> Header {
     header
 }
 
-/// A header that is refused: for a side, a short memory, or both.
+/// A header that open refuses: for a side, a short memory, or both.
 fn refused(rng: &mut Rng, mut header: Header) -> Header {
     let side = rng.pick(&[0, 4097, 0x1_0001, 0x8000_0000, u32::MAX]);
     match rng.below(8) {
@@ -57,7 +57,7 @@ fn refused(rng: &mut Rng, mut header: Header) -> Header {
     header
 }
 
-/// Ends the script with a bad call, and mostly with bytes that none may read.
+/// Ends the script with a bad call, mostly followed by bytes that must not be read.
 fn end(rng: &mut Rng, script: &mut Vec<u8>) {
     let high = rng.pick(&[0x0001_0000, 0x0100_0000, 0x8000_0000, 0xFFFF_0000]);
     match rng.below(16) {
@@ -78,14 +78,14 @@ fn end(rng: &mut Rng, script: &mut Vec<u8>) {
     }
 }
 
-/// A byte that begins no step, often one of the lowest.
+/// A byte that is no call and no look, often a low one.
 fn unknown(rng: &mut Rng) -> u8 {
     let unknown: Vec<u8> = (0..=u8::MAX).filter(|byte| !begins_step(*byte)).collect();
     let most = if rng.one_in(2) { 8 } else { unknown.len() };
     rng.pick(&unknown[..most])
 }
 
-/// Adds a call without its last bytes.
+/// Adds a call that lacks its last bytes.
 fn cut_short(rng: &mut Rng, script: &mut Vec<u8>) {
     let dc = GDI_SCREEN_DC;
     let (x, y, w, h, sx, sy, code) = (0, 0, 2, 2, 0, 1, rop3::SRCCOPY);

@@ -1,20 +1,20 @@
-//! The steps of a script: calls on the device, and looks at it.
+//! The steps of a script: calls and looks.
 
 use super::call::{Call, KINDS};
 
 /// The byte of a look.
 pub const LOOK: u8 = 0x7F;
 
-/// What a script lists behind its header.
+/// A step of a script.
 #[derive(Clone, Debug, PartialEq)]
 pub enum Step {
     Call(Call),
-    /// Prints the state lines as they are now. It is no call on the device.
+    /// Prints the present state lines. It is not a call on the device.
     Look,
 }
 
 impl Step {
-    /// Takes a step off the front of a script; `None` if it is a bad call.
+    /// Reads a step from the front of a script; `None` if it is a bad call.
     pub fn read(script: &mut &[u8]) -> Option<Step> {
         if let Some(rest) = script.strip_prefix(&[LOOK]) {
             *script = rest;
@@ -23,7 +23,7 @@ impl Step {
         Call::read(script).map(Step::Call)
     }
 
-    /// Adds the bytes to a script.
+    /// Appends the bytes to a script.
     pub fn write(&self, script: &mut Vec<u8>) {
         match self {
             Step::Call(call) => call.write(script),
@@ -38,7 +38,7 @@ impl From<Call> for Step {
     }
 }
 
-/// Whether a step can begin with the byte.
+/// Whether the byte is the first one of a step.
 pub fn begins_step(byte: u8) -> bool {
     byte == LOOK || KINDS.iter().any(|kind| kind.0 == byte)
 }
@@ -49,7 +49,7 @@ mod tests {
 
     #[test]
     fn steps_are_written_and_read() {
-        // As an argument the byte is no look.
+        // The byte of a look can be part of an argument.
         let brush = Call::CreateSolidBrush { color: 0x7F7F_7F7F };
         let steps = [Step::Look, Step::Look, brush.into(), Step::Look];
         let mut script = Vec::new();

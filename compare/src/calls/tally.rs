@@ -1,5 +1,5 @@
-//! What the scripts of a comparison did, so that they are seen to reach
-//! everything.
+//! Counts of what the scripts of a comparison did, to show that they reach every
+//! case.
 
 use std::fmt;
 
@@ -16,8 +16,8 @@ pub struct Tally {
     begun: Counts<5>,
     bad_calls: u64,
     looks: u64,
-    /// Calls, those accepted and those that changed a pixel, in the order of
-    /// `KINDS`.
+    /// For each of `KINDS`: the calls, those accepted, and those that changed a
+    /// pixel.
     kinds: [[u64; 3]; KINDS.len()],
     refused: Counts<7>,
     /// Texts refused with 10.
@@ -27,9 +27,9 @@ pub struct Tally {
     selected: Counts<4>,
     set: Counts<2>,
     drawn: Drawn,
-    /// Bitmaps moved down, and those of them that were not all black.
+    /// Bitmaps that moved, and those of them that were not all black.
     moved: [u64; 2],
-    /// Random calls left out since the original's sums overflow.
+    /// Random calls that were dropped because a sum of the original overflows.
     dropped: u64,
     /// The most objects that were live at a time.
     most: usize,
@@ -38,7 +38,7 @@ pub struct Tally {
 impl Tally {
     pub fn new() -> Self {
         Self {
-            // No memory that the program serves is above open's limit, so 8 is not to be seen.
+            // The program accepts no memory above open's limit, so 8 cannot occur.
             begun: Counts::new(["open 0", "open 6", "open 7", "bad script", "too large"]),
             bad_calls: 0,
             looks: 0,
@@ -115,7 +115,7 @@ impl Tally {
         }
     }
 
-    /// All calls.
+    /// The number of all calls.
     pub fn calls(&self) -> u64 {
         self.kinds.iter().map(|kind| kind[0]).sum()
     }
@@ -125,14 +125,14 @@ impl Tally {
         self.looks
     }
 
-    /// The least of all counts that are to be above 0.
+    /// The least of all counts that must be above 0.
     #[cfg(test)]
     pub fn least(&self) -> u64 {
         let calls = self.least_of_calls();
         calls.min(self.begun.least()).min(self.bad_calls).min(self.too_long)
     }
 
-    /// The same without what more than one script or a long text is needed for.
+    /// The same without the counts that need several scripts or a long text.
     #[cfg(test)]
     pub fn least_of_calls(&self) -> u64 {
         let answers = [self.refused.least(), self.deleted.least(), self.removed.least()];
@@ -171,7 +171,7 @@ fn kind_of(object: &Option<GdiObject>) -> &'static str {
     }
 }
 
-/// What the handle that a selection answers is by now.
+/// What the handle that a selection returned names now.
 fn standing(previous: u32, device: &Device) -> &'static str {
     if previous == 0 {
         "nothing"

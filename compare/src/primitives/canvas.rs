@@ -9,12 +9,12 @@ pub enum Canvas {
 }
 
 impl Canvas {
-    /// A panel that has counted no mark yet.
+    /// A panel with frame counter 0.
     pub fn panel(width: u32, height: u32, pixels: Vec<u8>) -> Self {
         Self::Panel(Framebuffer { width, height, bpp: FB_BPP, pixels, frame_counter: 0 })
     }
 
-    /// A bitmap without a mark.
+    /// A bitmap without a dirty mark.
     pub fn bitmap(width: u32, height: u32, pixels: Vec<u8>) -> Self {
         Self::Bitmap(Bitmap { width, height, pixels, ..Bitmap::new(1, 1) })
     }
@@ -26,7 +26,7 @@ impl Canvas {
         }
     }
 
-    /// Whether a mark was made. An operation makes one at most.
+    /// Whether the operation made a dirty mark. It makes at most one.
     pub fn marked(&self) -> bool {
         match self {
             Self::Panel(panel) => {

@@ -5,24 +5,24 @@ use pocket_kernel::gdi::rop3::SRCCOPY;
 use crate::argument::Units;
 use crate::table::table;
 
-/// A script's first bytes; one byte for the mode follows.
+/// The first bytes of a script; the mode, one byte, follows.
 pub const MAGIC: &[u8; 4] = b"PRM2";
 /// The length of the longest script.
 pub const LONGEST: usize = 1_048_576;
 pub const ANSWERS: u8 = 0;
 pub const PICTURE: u8 = 1;
 
-/// The bytes of the memory that surfaces lie in.
+/// How many bytes the memory has that surfaces lie in.
 pub const MEMORY: usize = 153_600;
 /// The largest side of a surface.
 pub const MAX_SIDE: u32 = 4096;
-/// The bytes of the longest source.
+/// How many bytes the longest source has.
 pub const MAX_SOURCE: u16 = 8192;
-/// The units of the longest text, some more than an operation takes.
+/// How many units the longest text has, a few more than an operation accepts.
 pub const MAX_COUNT: u32 = 65_600;
 
 table! {
-    /// One case with its arguments.
+    /// A case with its arguments.
     Case {
         0x01 "pack" Pack { colorref: u32 }
         0x02 "widen" Widen { word: u16 }
@@ -56,8 +56,7 @@ table! {
 }
 
 impl Case {
-    /// A copy between two surfaces: their sides, where to and where from, and the
-    /// box's sides.
+    /// A copy between two surfaces: the order, the sides of both, and the box.
     pub fn copy_between(order: u8, sides: [u16; 4], at: [i32; 4], [w, h]: [i32; 2]) -> Case {
         let [width, height, src_w, src_h] = sides;
         let [dx, dy, sx, sy] = at;
@@ -68,7 +67,7 @@ impl Case {
         case
     }
 
-    /// Takes a case off the front of a script; `None` if it is a bad one.
+    /// Reads a case from the front of a script; `None` if it is a bad case.
     pub fn read(script: &mut &[u8]) -> Option<Case> {
         let case = Case::read_any(script)?;
         let good = match case {
@@ -114,13 +113,13 @@ fn sides(width: u16, height: u16) -> bool {
     side(width) && side(height)
 }
 
-/// The bytes that a surface of these sides takes.
+/// How many bytes a surface of these sides has.
 pub fn bytes_of(width: u16, height: u16) -> usize {
     2 * usize::from(width) * usize::from(height)
 }
 
-/// The bytes of a surface or of a blit's source: black if the seed is 0, else
-/// words of the format's generator.
+/// The bytes of a surface or of a blit's source: black if the seed is 0, otherwise
+/// words from the format's generator.
 pub fn generated(len: usize, seed: u32) -> Vec<u8> {
     if seed == 0 {
         return vec![0; len];
@@ -135,7 +134,7 @@ pub fn generated(len: usize, seed: u32) -> Vec<u8> {
     bytes
 }
 
-/// A text's units: `count` of them, going round those given, and 0 at `stop`.
+/// The units of a text: `count` units, the given ones repeated, and 0 at `stop`.
 pub fn text(count: u32, stop: u32, units: &Units<u8>) -> Vec<u16> {
     let round = units.as_slice().iter().cycle().copied();
     let text = (0..count).zip(round);

@@ -1,12 +1,12 @@
-//! Where the drawing of a case lies, for the tally.
+//! Where a case draws, for the tally.
 
 use super::case::Case;
 use super::lent::Lent;
 use crate::clip::{self, Axis, Stretch};
 use pocket_kernel::font::{GLYPH_H, GLYPH_W};
 
-/// The box of the case's drawing, columns and rows; `None` if no part of it is
-/// in sight. The box of an outline is all that is inside it as well.
+/// The visible box of the case's drawing, as columns and rows; `None` if it has no
+/// visible part. The box of an outline includes its inside.
 pub fn boxed(case: &Case, target: Lent) -> Option<[Axis; 2]> {
     let sides = [target.width, target.height];
     clip::boxed(stretches(case, sides)?, sides)
@@ -27,7 +27,7 @@ fn stretches(case: &Case, [width, height]: [u32; 2]) -> Option<[Stretch; 2]> {
         Case::BlitBetween { dx, dy, sx, sy, w, h, src_w, src_h, .. } => {
             [taken(dx, sx, w, src_w.into()), taken(dy, sy, h, src_h.into())]
         }
-        // A glyph's last column has no ink.
+        // The last column of a glyph has no ink.
         Case::Character { x, y, .. } => {
             [plain(x, i64::from(GLYPH_W) - 1), plain(y, GLYPH_H.into())]
         }

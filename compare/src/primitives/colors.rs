@@ -9,7 +9,7 @@ use crate::crc::crc32;
 
 include!(concat!(env!("OUT_DIR"), "/glyphs.rs"));
 
-/// The parts of the answer; `None` if the case is another one.
+/// The parts of the answer; `None` for another case.
 pub fn answer(case: &Case) -> Option<String> {
     Some(match *case {
         Case::Pack { colorref } => digits(colorref_to_rgb565(colorref)),
@@ -47,8 +47,8 @@ fn sweep(block: u8) -> String {
     format!("{block:02x} {rgb:08x} {from_555:08x} {to_555:08x}")
 }
 
-/// R, G and B of each word. The function that widens is private, so this is
-/// what the two snapshots of a row of these words agree on.
+/// R, G and B of each word. The original's widening function is private, so they
+/// are read from its two snapshots of a row of these words, which must agree.
 fn widened(words: &[u16]) -> Vec<u8> {
     let mut row = Framebuffer::new(words.len() as u32, 1);
     row.pixels = words.iter().flat_map(|word| word.to_le_bytes()).collect();

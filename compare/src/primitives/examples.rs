@@ -5,7 +5,7 @@ use pocket_kernel::gdi::rop3::{DSTINVERT, PATCOPY, SRCCOPY};
 use super::case::{Case, MAX_COUNT};
 use crate::argument::Units;
 
-/// No unit of a text is 0.
+/// A stop that no text reaches.
 const NEVER: u32 = u32::MAX;
 
 pub fn add(cases: &mut Vec<Case>) {
@@ -28,7 +28,7 @@ fn outline(x: i32, y: i32, w: i32, h: i32) -> Case {
     Case::Outline { x, y, w, h, color: 0x001F }
 }
 
-/// A 3 by 3 box of a source with these sides and bytes.
+/// A blit of a 3 by 3 box from a source with these sides and bytes.
 fn blit([dx, dy]: [i32; 2], [sx, sy]: [i32; 2], [src_w, src_h]: [u32; 2], src_len: u16) -> Case {
     let (w, h, seed, code, pattern) = (3, 3, 2, SRCCOPY, 0);
     Case::Blit { dx, dy, sx, sy, w, h, src_w, src_h, src_len, seed, code, pattern }
@@ -50,7 +50,7 @@ fn text(x: i32, y: i32, count: u32, stop: u32, units: &[u16]) -> Case {
 /// Fills and outlines on 4 by 3.
 fn boxes(cases: &mut Vec<Case>) {
     cases.extend([
-        // On a fresh surface, 1 by 1 and black.
+        // On the first surface, which is 1 by 1 and black.
         pattern_fill(0, 0, 1, 1, PATCOPY),
         Case::Surface { width: 4, height: 3, seed: 0 },
         pattern_fill(1, 1, 2, 1, DSTINVERT),
@@ -60,7 +60,7 @@ fn boxes(cases: &mut Vec<Case>) {
         fill(1, 1, 0, 1),
         fill(1, 1, 1, i32::MIN),
         fill(-5, -5, 20, 20),
-        // A rim, one pixel, one side in sight, none in sight, none at all.
+        // A whole outline, one pixel, one visible side, no visible side, an empty box.
         outline(0, 0, 4, 3),
         outline(1, 1, 1, 1),
         outline(-1, 1, 3, 9),
@@ -70,7 +70,7 @@ fn boxes(cases: &mut Vec<Case>) {
     ]);
 }
 
-/// Blits on 4 by 3, from sources that are whole, short, longer, or none.
+/// Blits on 4 by 3, from sources that are complete, too short, too long, or empty.
 fn sources(cases: &mut Vec<Case>) {
     let square = |src_len| blit([0, 0], [0, 0], [3, 3], src_len);
     cases.extend([
@@ -78,13 +78,13 @@ fn sources(cases: &mut Vec<Case>) {
         blit([-1, 1], [0, 0], [3, 3], 18),
         blit([0, 0], [-1, 1], [3, 3], 18),
         blit([4, 0], [0, 0], [3, 3], 18),
-        // Short by a row, by a byte, by all.
+        // A source that lacks a row, a byte, everything.
         Case::Surface { width: 4, height: 3, seed: 0 },
         square(12),
         square(17),
         square(0),
         square(19),
-        // Three columns of 4096, the third of three rows of which passes the end.
+        // Three of 4096 columns; the third of three rows passes the end.
         blit([1, 0], [4093, 0], [4096, 3], 8192),
         blit([1, 0], [0, 0], [0, 3], 18),
         blit([1, 0], [0, 0], [3, 0], 18),
@@ -97,20 +97,20 @@ fn moves(cases: &mut Vec<Case>) {
         Case::copy_between(order, [4, 3, 2, 5], [dx, dy, sx, sy], [2, 2])
     };
     cases.extend([
-        // In one row: right, left, onto itself, nothing.
+        // In one row: right, left, onto itself, an empty box.
         Case::Surface { width: 3, height: 1, seed: 1 },
         within([1, 0], [0, 0], [2, 1]),
         within([0, 0], [1, 0], [2, 1]),
         within([0, 0], [0, 0], [3, 1]),
         within([0, 0], [3, 0], [1, 1]),
-        // Down, up, and aslant with all sides cut.
+        // Down, up, and diagonally with all sides cut.
         Case::Surface { width: 4, height: 3, seed: 3 },
         within([1, 1], [0, 0], [3, 2]),
         Case::Surface { width: 4, height: 3, seed: 4 },
         within([0, 0], [0, 1], [4, 2]),
         within([-1, 1], [0, -1], [9, 9]),
         within([1, -1], [-1, 0], [9, 9]),
-        // The memory behind the surface is drawn on as well.
+        // These draw on the memory past the surface too.
         Case::Surface { width: 6, height: 6, seed: 5 },
         between(0, [1, 1], [0, 3]),
         between(1, [-1, 0], [0, 0]),
@@ -131,7 +131,7 @@ fn ink(cases: &mut Vec<Case>) {
     ]);
     cases.extend([0, 0x1F, 0x20, 0x7F, 0x0141, 0xD800, u32::MAX].map(|n| character(0, 0, n)));
     cases.extend([
-        // Its last column and the next one's first; a stop; no unit.
+        // The last column of a glyph and the first of the next; unit 0; no unit.
         black,
         text(-4, 0, 2, NEVER, &[0x41, 0x42]),
         text(0, -3, 5, 1, &[0x41]),
@@ -139,7 +139,7 @@ fn ink(cases: &mut Vec<Case>) {
         text(0, 0, 0, NEVER, &[0x41]),
         text(-6, 1, 2, NEVER, &[0x41, 0xD800]),
         text(i32::MIN, i32::MAX, 2, NEVER, &[0x20]),
-        // The last of the most units that are accepted.
+        // The last unit of the longest text that is accepted.
         text(-6 * 65_534, 0, 65_535, NEVER, &[0x41, 0x7F, 0x7E]),
         text(-6 * 65_534, 0, MAX_COUNT, 65_535, &[0x42]),
         text(0, 0, 65_536, NEVER, &[0x41]),
@@ -147,8 +147,8 @@ fn ink(cases: &mut Vec<Case>) {
     ]);
 }
 
-/// Each operation on bytes that are lent as the surface, as one of another
-/// shape, with a wrong length, with a wrong side, with both.
+/// Each operation on bytes that are lent as the surface, as a surface with other
+/// sides, with a wrong length, with a wrong side, with both.
 fn refusals(cases: &mut Vec<Case>) {
     let lent = [
         (3, 4, 24),
@@ -179,7 +179,7 @@ fn refusals(cases: &mut Vec<Case>) {
             character(0, 0, 0x41),
             text(0, 0, 2, NEVER, &[0x42]),
             text(0, 0, 65_536, NEVER, &[0x42]),
-            // This one takes the surface still.
+            // This case always uses the surface.
             within([1, 1], [0, 0], [3, 2]),
         ]);
     }

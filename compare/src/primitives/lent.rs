@@ -1,12 +1,12 @@
-//! Bytes of the memory that are lent as a surface, and what an operation on them
-//! refuses. The original refuses nothing: the numbers are the format's own.
+//! Bytes of the memory that are lent as a surface, and how operations on them are
+//! refused. The original refuses nothing; the refusals are the specification's.
 
 use std::ops::Range;
 
 use super::case::{bytes_of, Case, MAX_SIDE};
 
-/// `len` bytes of the memory from `at` on, lent as a surface of these sides,
-/// whatever they are.
+/// `len` bytes of the memory from `at` on, lent as a surface of these sides. Length
+/// and sides may be wrong.
 #[derive(Clone, Copy, Debug, PartialEq)]
 pub struct Lent {
     pub width: u32,
@@ -16,7 +16,7 @@ pub struct Lent {
 }
 
 impl Lent {
-    /// A surface with just its bytes.
+    /// A surface with exactly its bytes.
     pub fn surface(width: u16, height: u16, at: usize) -> Self {
         let len = bytes_of(width, height);
         Self { width: width.into(), height: height.into(), at, len }
@@ -26,9 +26,9 @@ impl Lent {
         self.at..self.at + self.len
     }
 
-    /// The number with which the case's operation is refused, 0 if it is not:
-    /// 6 a side outside its limit, which for a source begins at 0; then 8 bytes
-    /// not 2·w·h long; for a text last 10, too many units.
+    /// The number with which the case's operation is refused, 0 if it is accepted:
+    /// 6 a side outside its limits (a source's side may be 0); then 8 if the bytes
+    /// are not 2·w·h; last, for a text, 10 too many units.
     pub fn refusal(&self, case: &Case) -> u8 {
         let side = |n| (1..=MAX_SIDE).contains(&n);
         let source = match *case {

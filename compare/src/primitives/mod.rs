@@ -1,4 +1,5 @@
-//! The drawing primitives: the cases of docs/primitive-cases.md on the original.
+//! The drawing primitives: the cases of docs/primitive-cases.md, run with the
+//! original.
 
 mod canvas;
 mod case;
@@ -17,7 +18,7 @@ pub use run::run;
 pub use sample::sample;
 pub use script::answers;
 
-/// A random script's bytes and the tally of its cases.
+/// The bytes of a random script, and the tally of its cases.
 pub fn cases(seed: u64, count: u64) -> (Vec<u8>, tally::Tally) {
     let (mut script, mut tally) = (script::Script::new(), tally::Tally::default());
     random::add(&mut script, seed, count, random::ALL, &mut tally);

@@ -11,23 +11,23 @@ use super::lent::Lent;
 use crate::crc::crc32;
 use crate::overflow::{caught, Overflow};
 
-/// The memory, and what of it the operations are lent.
+/// The memory, the surface, and the bytes that the operations are lent.
 pub struct Original {
     memory: Vec<u8>,
     surface: Lent,
     lent: Lent,
-    /// Whether the next operation is on a panel; every other one is on a bitmap.
+    /// Whether the next operation draws on a panel. Panels and bitmaps alternate.
     panel: bool,
 }
 
-/// What a case came to.
+/// The outcome of a case.
 #[derive(Default)]
 pub struct Outcome {
     /// The answer, without the end of the line.
     pub line: String,
-    /// The number of the refusal, 0 if there is none.
+    /// The number of the refusal, 0 if it is accepted.
     pub refusal: u8,
-    /// Whether a byte of the memory is another one now.
+    /// Whether a byte of the memory has changed.
     pub changed: bool,
     /// Whether a dirty mark was made.
     pub marked: bool,
@@ -35,7 +35,7 @@ pub struct Outcome {
     advance: i32,
 }
 
-/// The pixels that a blit takes.
+/// The source of a blit.
 struct Source {
     bytes: Vec<u8>,
     width: u32,
@@ -52,7 +52,7 @@ impl Original {
         self.surface
     }
 
-    /// What the operations of cases 11, 12 and 14 to 17 are lent.
+    /// The bytes that cases 11, 12 and 14 to 17 lend.
     pub fn lent(&self) -> Lent {
         self.lent
     }
@@ -65,7 +65,7 @@ impl Original {
         panel.snapshot_ppm()
     }
 
-    /// Works the case out; after an overflow the memory is as it was.
+    /// Runs the case. After an overflow the memory is unchanged.
     pub fn answer(&mut self, case: &Case) -> Result<Outcome, Overflow> {
         let mut outcome = Outcome::default();
         let parts = if let Some(parts) = colors::answer(case) {
@@ -81,7 +81,7 @@ impl Original {
         Ok(outcome)
     }
 
-    /// Makes a surface, or lends bytes as the case says.
+    /// Makes a surface (case 10) or sets the lent bytes (case 18).
     fn lend(&mut self, case: &Case) {
         match *case {
             Case::Surface { width, height, seed } => {
@@ -97,7 +97,7 @@ impl Original {
         }
     }
 
-    /// Has the original draw on a copy of the lent bytes, unless that is refused.
+    /// Makes the original draw on a copy of the lent bytes, unless it is refused.
     fn draw(&mut self, case: &Case) -> Result<Outcome, Overflow> {
         let target = self.target(case);
         let refusal = target.refusal(case);
@@ -126,7 +126,7 @@ impl Original {
         }
     }
 
-    /// The pixels that the case draws, as they are before it; none if it is no blit.
+    /// A copy of the blit's source before the case; none for another case.
     fn source(&self, case: &Case) -> Source {
         let copy = |lent: Lent| Source {
             bytes: self.memory[lent.bytes()].to_vec(),
@@ -144,7 +144,7 @@ impl Original {
         }
     }
 
-    /// The answer to a case that draws, as its parts.
+    /// The parts of the answer to a case that draws.
     fn drawn(&self, case: &Case, outcome: &Outcome) -> String {
         let Outcome { refusal, advance, .. } = outcome;
         let mark = u8::from(outcome.marked);
@@ -156,7 +156,7 @@ impl Original {
         }
     }
 
-    /// The bytes whose CRC answers the case: between two surfaces those of both.
+    /// The bytes whose CRC is part of the answer: for case 19 those of both surfaces.
     fn shown(&self, case: &Case) -> Lent {
         match case {
             Case::BlitBetween { .. } => {
@@ -172,8 +172,8 @@ impl Original {
     }
 }
 
-/// The target and the source of a blit between two surfaces: one begins the
-/// memory, and the other is right behind it.
+/// The target and the source of a blit between two surfaces. One is at the start
+/// of the memory, the other directly behind it.
 fn between(case: &Case) -> (Lent, Lent) {
     let Case::BlitBetween { order, width, height, src_w, src_h, .. } = *case else {
         unreachable!("{case} has no two surfaces");
@@ -187,7 +187,7 @@ fn between(case: &Case) -> (Lent, Lent) {
     }
 }
 
-/// Has the original draw the case. A text's advance, else 0.
+/// Makes the original draw the case. Returns a text's advance, otherwise 0.
 fn operate(surface: &mut Surface<'_>, case: &Case, source: Source) -> i32 {
     match *case {
         Case::PatternFill { x, y, w, h, pattern, code } => {
@@ -202,7 +202,7 @@ fn operate(surface: &mut Surface<'_>, case: &Case, source: Source) -> i32 {
             surface.blit_from_bytes_rop(dx, dy, sx, sy, w, h, &bytes, width, height, code, pattern);
         }
         Case::Character { x, y, character, color } => {
-            // There is no character of some numbers, and so nothing to draw.
+            // Some numbers are no character; then there is nothing to draw.
             if let Some(character) = char::from_u32(character) {
                 draw_char(surface, x, y, character, color);
             }
@@ -221,7 +221,7 @@ mod tests {
     use crate::argument::Units;
     use pocket_kernel::gdi::rop3::SRCCOPY;
 
-    /// An original with a surface of these sides and words.
+    /// The original with a surface of these sides and words.
     fn with_surface(width: u16, height: u16, words: &[u16]) -> Original {
         let mut original = Original::new();
         original.lend(&Case::Surface { width, height, seed: 0 });
@@ -236,7 +236,8 @@ mod tests {
         bytes.chunks(2).map(|word| u16::from_le_bytes([word[0], word[1]])).collect()
     }
 
-    /// Whether the case, on a black surface, marked, and the words after it.
+    /// Runs the case on a black surface. Returns whether it made a mark, and the words
+    /// after it.
     fn drawn(width: u16, height: u16, case: &Case) -> (bool, Vec<u16>) {
         let mut original = with_surface(width, height, &[]);
         let outcome = original.answer(case).unwrap();
@@ -252,7 +253,7 @@ mod tests {
             let (seed, code, pattern) = (2, SRCCOPY, 0);
             Case::Blit { dx, dy, sx, sy, w, h, src_w, src_h, src_len, seed, code, pattern }
         };
-        // 2 by 2 from (1, 0) of the source, whole, short by a byte, empty.
+        // 2 by 2 from (1, 0) of a source that is complete, lacks a byte, is empty.
         let picture = vec![0, 0, 0, 0, s[1], s[2], 0, 0, s[4], s[5], 0, 0];
         let first_row = vec![0, 0, 0, 0, s[1], s[2], 0, 0, 0, 0, 0, 0];
         assert_eq!(drawn(4, 3, &blit(12)), (true, picture));

@@ -1,4 +1,4 @@
-//! Random cases that draw: at every edge, far away, and at the ends of i32.
+//! Random cases: at every edge of the surface, far away, and at the ends of i32.
 
 use super::case::{Case, MAX_COUNT, MAX_SIDE, MAX_SOURCE, MEMORY};
 use super::lent::Lent;
@@ -9,7 +9,7 @@ use crate::random::{code, colorref, unit, word};
 use crate::rng::Rng;
 use crate::span::{moved, near, outline, span};
 
-/// The kinds of cases to choose from, each with its share.
+/// The kinds of cases, each with its share.
 pub type Mix = &'static [(u8, u64)];
 
 pub const ALL: Mix = &[
@@ -32,17 +32,17 @@ pub const ALL: Mix = &[
     (0x19, 8),
 ];
 
-/// Those that make surfaces, lend and draw.
+/// The kinds that make surfaces, lend and draw.
 pub const DRAWING: Mix = ALL.split_at(7).1;
 
 /// A surface's width and height.
 type Sides = (i64, i64);
 
-/// Adds random cases until the script has `count` more.
+/// Adds `count` random cases to the script.
 pub fn add(script: &mut Script, seed: u64, count: u64, mix: Mix, tally: &mut Tally) {
     let mut rng = Rng::new(seed);
     let end = script.cases.len() + count as usize;
-    // Words in all of the memory, also behind the surfaces to come.
+    // The first case fills the whole memory with words, also past later surfaces.
     let mut case = Case::Surface { width: 240, height: 320, seed: seed as u32 | 1 };
     while script.cases.len() < end {
         script.push(case, tally);
@@ -74,13 +74,13 @@ fn case(rng: &mut Rng, mix: Mix, surface: Lent, lent: Lent) -> Case {
     }
 }
 
-/// The sides to draw on: those lent, or the nearest that a surface may have.
+/// The sides to draw on: the lent ones, or the nearest that a surface may have.
 fn on(lent: Lent) -> Sides {
     let side = |n: u32| n.clamp(1, MAX_SIDE).into();
     (side(lent.width), side(lent.height))
 }
 
-/// A seed, seldom the one for black.
+/// A seed, rarely 0, which means black.
 fn seed(rng: &mut Rng) -> u32 {
     if rng.one_in(24) {
         0
@@ -94,7 +94,7 @@ fn surface(rng: &mut Rng) -> Case {
     Case::Surface { width: width as u16, height: height as u16, seed: seed(rng) }
 }
 
-/// Sides of a surface that fits the memory, seldom of a large one.
+/// Sides of a surface that fits the memory, rarely of a large one.
 fn sides(rng: &mut Rng) -> Sides {
     let room = MEMORY as i64 / 2 / i64::from(MAX_SIDE);
     match rng.below(96) {
@@ -124,7 +124,7 @@ fn fill(rng: &mut Rng, (width, height): Sides) -> Case {
 fn outlined(rng: &mut Rng, (width, height): Sides) -> Case {
     let (x, y) = (outline(rng, width), outline(rng, height));
     let (mut w, h) = (x.len, y.len);
-    // Beside a side that is empty the other is not walked.
+    // If the height is empty, the original does not go through the width.
     if h <= 0 && rng.one_in(2) {
         w = i32::MAX;
     }
@@ -134,7 +134,7 @@ fn outlined(rng: &mut Rng, (width, height): Sides) -> Case {
 fn blit(rng: &mut Rng, (width, height): Sides) -> Case {
     let (src_w, src_h) = source_sides(rng);
     let src_len = source_len(rng, src_w, src_h);
-    // Mostly rows that the source has, and the two after them.
+    // Mostly the rows that the source's bytes hold, and two more.
     let held = src_len / (2 * src_w).max(1) + 2;
     let rows = if rng.one_in(4) { src_h } else { src_h.min(held) };
     let whole = rng.one_in(8);
@@ -156,7 +156,7 @@ fn blit(rng: &mut Rng, (width, height): Sides) -> Case {
     }
 }
 
-/// A source's sides: mostly small, sometimes large, seldom 0 or too large.
+/// A source's sides: mostly small, sometimes large, rarely 0 or too large.
 fn source_sides(rng: &mut Rng) -> Sides {
     let most = rng.pick(&[8, 40, 64]);
     let (a, b) = (rng.between(1, most), rng.between(1, most));
@@ -171,7 +171,7 @@ fn source_sides(rng: &mut Rng) -> Sides {
     }
 }
 
-/// A source's length: mostly as its sides want it, else less or more.
+/// A source's length: mostly 2·w·h, otherwise less or more.
 fn source_len(rng: &mut Rng, src_w: i64, src_h: i64) -> i64 {
     let side = |n: i64| n.min(MAX_SIDE.into());
     let (row, whole) = (2 * side(src_w), 2 * side(src_w) * side(src_h));
@@ -245,8 +245,8 @@ fn text(rng: &mut Rng, (width, height): Sides) -> Case {
     Case::Text { x, y, color: word(rng), count: count as u32, stop: stop as u32, units }
 }
 
-/// How many units a text has, and the one that is 0, mostly none of them: a
-/// few, some more than fit the surface, seldom about as many as are accepted.
+/// How many units a text has: a few, sometimes more than fit the surface, rarely
+/// about as many as are accepted. And which unit is 0, mostly none.
 fn count(rng: &mut Rng, width: i64) -> (i64, i64) {
     let most = i64::from(u16::MAX);
     let count = match rng.below(48) {
@@ -265,8 +265,8 @@ fn count(rng: &mut Rng, width: i64) -> (i64, i64) {
     (count, stop)
 }
 
-/// The surface's bytes, or others, as a surface of another shape, or as one
-/// that is refused.
+/// Lent bytes: the surface's or others, with other sides, or with sides or a length
+/// that are refused.
 fn lend(rng: &mut Rng, surface: Lent) -> Case {
     let (width, height) = match rng.below(8) {
         0 | 1 => (surface.height, surface.width),
@@ -290,7 +290,7 @@ fn lend(rng: &mut Rng, surface: Lent) -> Case {
     Case::Lend { width, height, len: len.clamp(0, MEMORY as i64) as u32 }
 }
 
-/// A side at the limits, or past them.
+/// A side at the limits or outside them.
 fn side(rng: &mut Rng) -> u32 {
     rng.pick(&[0, 4096, 4097, 0x0001_0001, u32::MAX])
 }

@@ -1,15 +1,15 @@
-//! The comparison at scale: random scripts, the original against a program.
+//! Compares a program with the original on random scripts.
 
 use super::random;
 use super::script::Script;
 use super::tally::Tally;
 use crate::program::{self, first_difference, hexadecimal, line_at, Progress};
 
-/// Cases in one script.
+/// How many cases a script has.
 const BATCH: u64 = 2000;
 
-/// Compares `count` cases, script by script, each from the next seed. True if
-/// all answers are equal; else the first difference has been printed.
+/// Compares `count` cases, script by script, each from the next seed. True if all
+/// answers are equal; otherwise it prints the first difference.
 pub fn run(program: &str, count: u64, first: u64) -> Result<bool, String> {
     let mut tally = Tally::default();
     let mut progress = Progress::new(count, "cases");
@@ -38,7 +38,7 @@ pub fn run(program: &str, count: u64, first: u64) -> Result<bool, String> {
     Ok(true)
 }
 
-/// The case, decoded and as bytes, with both answers.
+/// The case in readable form and as bytes, with both answers.
 fn report(script: &Script, printed: &[u8], at: usize) -> String {
     let line = line_at(printed, at);
     let Some(case) = script.cases.get(at) else {

@@ -1,4 +1,4 @@
-//! The fixed sample that is replayed at every change.
+//! The fixed sample, which the gate runs.
 
 use super::case::Case;
 use super::examples;
@@ -8,8 +8,8 @@ use super::tally::Tally;
 use crate::codes::named;
 use crate::rng::Rng;
 
-/// Patterns, sources and destinations: each of the eight combinations alone,
-/// all of them beside each other, and words without a pattern to them.
+/// Patterns, sources and destinations: each of the eight combinations of bits alone,
+/// all of them in one word, and other words.
 const OPERANDS: [[u16; 3]; 16] = [
     [0x0000, 0x0000, 0x0000],
     [0x0000, 0x0000, 0xFFFF],
@@ -29,9 +29,9 @@ const OPERANDS: [[u16; 3]; 16] = [
     [0x8765, 0x4321, 0xBEEF],
 ];
 
-/// Channel values at which a bit that is kept changes; every three of them.
+/// Channel values at which a bit that packing keeps changes; every three of them.
 const CHANNELS: [u32; 8] = [0, 4, 7, 8, 127, 128, 252, 255];
-/// More of them, tried one channel at a time.
+/// More channel values, tried one channel at a time.
 const MORE_CHANNELS: [u32; 9] = [1, 3, 131, 132, 191, 192, 247, 248, 251];
 
 pub fn sample() -> (Script, Tally) {
@@ -74,7 +74,7 @@ fn packing(cases: &mut Vec<Case>) {
     }
 }
 
-/// Single words, beside the sweeps that go through all of them.
+/// Single words, in addition to the sweeps over all words.
 fn words(cases: &mut Vec<Case>) {
     let words = [0x0000, 0xFFFF, 0x8410, 0x7BEF, 0x0020, 0xF800, 0x07E0, 0x001F];
     cases.extend(words.map(|word| Case::Widen { word }));

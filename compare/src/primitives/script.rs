@@ -1,4 +1,5 @@
-//! Scripts: made case by case with the original's answers, and answered.
+//! Scripts, which are made case by case with the original's answers, and what is
+//! printed for them.
 
 use super::case::{Case, ANSWERS, LONGEST, MAGIC, PICTURE};
 use super::lent::Lent;
@@ -6,7 +7,7 @@ use super::original::Original;
 use super::tally::Tally;
 use crate::overflow::Overflow;
 
-/// A script under way, with the original's answer to each case so far.
+/// A script that is being made, with the original's answer to each case.
 pub struct Script {
     original: Original,
     pub cases: Vec<Case>,
@@ -23,12 +24,12 @@ impl Script {
         self.original.surface()
     }
 
-    /// What the next operation is lent.
+    /// The bytes that the next operation is lent.
     pub fn lent(&self) -> Lent {
         self.original.lent()
     }
 
-    /// Adds the case, or drops it where the original has no answer.
+    /// Adds the case, or drops it if a sum of the original overflows.
     pub fn push(&mut self, case: Case, tally: &mut Tally) {
         let Ok(outcome) = self.original.answer(&case) else {
             return tally.drop_one();
@@ -38,7 +39,7 @@ impl Script {
         self.answers.push(outcome.line);
     }
 
-    /// The script as bytes, for answers.
+    /// The script as bytes, in mode 0.
     pub fn bytes(&self) -> Vec<u8> {
         let mut bytes = MAGIC.to_vec();
         bytes.push(ANSWERS);
@@ -52,7 +53,7 @@ impl Script {
     }
 }
 
-/// What is printed for a script; an error where the original has no answer.
+/// What is printed for a script; an error if a sum of the original overflows.
 pub fn answers(script: &[u8]) -> Result<Vec<u8>, String> {
     let (mode, mut rest) = match script.strip_prefix(MAGIC) {
         Some([mode @ (ANSWERS | PICTURE), rest @ ..]) if script.len() <= LONGEST => (*mode, rest),
@@ -156,7 +157,7 @@ mod tests {
             between(1, [240, 319, 241, 1]),
         ];
         for case in bad {
-            // Nothing follows, so that what is cut short stays so.
+            // Nothing follows, so that the case is really cut short.
             let script = [vec![0x06, 0], case].concat();
             let lines = printed(ANSWERS, &script);
             assert_eq!(lines, "06 0000000000000000\nbad case\n", "{script:?}");
@@ -188,7 +189,7 @@ mod tests {
     fn the_picture_is_the_surface() {
         let fill = bytes(Case::Fill { x: 0, y: 0, w: 1, h: 1, color: 0x6162 });
         assert_eq!(printed(PICTURE, &fill), "P6\n1 1\n255\nc,\x10");
-        // Also if other bytes are lent after it.
+        // The same if other bytes are lent afterwards.
         let script = [surface(2, 1), lend(0), fill].concat();
         assert_eq!(printed(PICTURE, &script), "P6\n2 1\n255\n\0\0\0\0\0\0");
     }

@@ -1,4 +1,5 @@
-//! What the cases of a comparison did, so that they are seen to draw.
+//! Counts of what the cases of a comparison did, to show that they reach every
+//! case.
 
 use std::fmt;
 
@@ -12,7 +13,7 @@ use crate::counts::listed;
 /// The numbers of refusals.
 const REFUSALS: [u8; 3] = [6, 8, 10];
 
-/// The cases of one kind, and how many of them did what.
+/// Counts of the cases of one kind.
 #[derive(Clone, Copy, Default)]
 struct Kind {
     cases: u64,
@@ -23,23 +24,23 @@ struct Kind {
 
 #[derive(Default)]
 pub struct Tally {
-    /// In the order of `KINDS`.
+    /// The counts of each of `KINDS`.
     kinds: [Kind; KINDS.len()],
     /// Operations refused with each of `REFUSALS`.
     refused: [u64; REFUSALS.len()],
     /// Drawings cut at each of `CUTS` that changed a byte.
     cuts: [u64; CUTS.len()],
-    /// Blits that skipped some rows of the source, and those that skipped all.
+    /// Blits that skipped some rows of the source, and blits that skipped all.
     skipped_some: u64,
     skipped_all: u64,
-    /// Blits within the surface that overlap, in each of `MOVES`.
+    /// Overlapping blits within the surface, by `MOVES`.
     moves: [u64; MOVES.len()],
-    /// Cases left out since the original's sums overflow.
+    /// Cases that were dropped because a sum of the original overflows.
     dropped: u64,
 }
 
 impl Tally {
-    /// Counts a case that drew on these bytes, if it draws.
+    /// Counts a case. These are the bytes that it was lent.
     pub fn count(&mut self, case: &Case, outcome: &Outcome, target: Lent) {
         let kind = KINDS.iter().position(|kind| kind.0 == case.byte());
         let kind = &mut self.kinds[kind.expect("each case has a kind")];
@@ -57,7 +58,7 @@ impl Tally {
         self.count_clipped(case, outcome, target);
     }
 
-    /// Counts where an accepted drawing was cut, and how its rows were taken.
+    /// Counts where an accepted drawing was cut, and which rows it skipped.
     fn count_clipped(&mut self, case: &Case, outcome: &Outcome, target: Lent) {
         let Some(seen) = boxed(case, target) else { return };
         if outcome.changed {
@@ -93,9 +94,9 @@ impl Tally {
         100 * self.sum(|kind| kind.changed) / self.sum(|kind| kind.accepted).max(1)
     }
 
-    /// The least of all counts that are to be above 0: cases of each kind, and
-    /// of those that draw the ones that changed a byte, refusals, cuts, skipped
-    /// rows and directions.
+    /// The least of all counts that must be above 0: the cases of each kind, the
+    /// drawings of each kind that changed a byte, refusals, cuts, skipped rows and
+    /// directions.
     #[cfg(test)]
     pub fn least(&self) -> u64 {
         let kinds = self.kinds.iter().map(|kind| kind.cases);

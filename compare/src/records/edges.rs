@@ -1,11 +1,11 @@
-//! Records at the edges: sound, and unsound for one thing.
+//! Records at the limits: sound, or unsound for one reason.
 
 use super::random::lend_all;
 use super::record::{Object, Record, Slot, MEMORY, SCREEN};
 use crate::calls::{bytes_of, MAX_MEMORY, MAX_OBJECTS, MAX_SIDE, STOCK};
 
-/// A sound record whose memories are just long enough, lent as they are: a panel
-/// of 2 by 3 and six objects, the first and the last of them DCs.
+/// A sound record with a panel of 2 by 3 and six objects, the first and the last of
+/// them DCs. Its memories have the least length, and are lent with that length.
 pub fn base() -> Record {
     let objects = [
         (9, dc(MEMORY)),
@@ -64,7 +64,7 @@ pub fn records() -> Vec<Record> {
     records
 }
 
-/// Adds the record after a change, with memories of its lengths.
+/// Adds the changed record, with memories of its lengths.
 fn add(records: &mut Vec<Record>, change: impl FnOnce(&mut Record)) {
     let mut record = base();
     change(&mut record);
@@ -72,14 +72,14 @@ fn add(records: &mut Vec<Record>, change: impl FnOnce(&mut Record)) {
     records.push(record);
 }
 
-/// Lent lengths that are not the record's, the last time with an unsound record.
+/// Lent lengths that are not the record's; at last with an unsound record.
 fn lent(records: &mut Vec<Record>) {
     for (panel_lent, store_lent, height) in [(13, 12, 3), (12, 11, 3), (0, 0, 3), (13, 13, 0)] {
         records.push(Record { panel_lent, store_lent, height, ..base() });
     }
 }
 
-/// Handles that no created object may have, or that two have; created screen DCs.
+/// Handles that no created object may have, equal handles, created screen DCs.
 fn handles(records: &mut Vec<Record>) {
     for handle in STOCK.into_iter().chain([0]) {
         add(records, |record| record.slots[3].handle = handle);
@@ -93,8 +93,9 @@ fn handles(records: &mut Vec<Record>) {
     }
 }
 
-/// Screen DCs that say `memory`, which is not looked at: with and without created
-/// objects, with a wrong lent length, with a created DC that says `screen`.
+/// Screen DCs whose surface is `memory`, which has no effect: with and without
+/// created objects, with a wrong lent length, with a created DC whose surface is
+/// `screen`.
 fn memory_screens(records: &mut Vec<Record>) {
     add(records, |record| record.screen = MEMORY);
     add(records, |record| (record.screen, record.count) = (MEMORY, 0));
@@ -104,7 +105,7 @@ fn memory_screens(records: &mut Vec<Record>) {
     });
 }
 
-/// The shortest and the longest sides, and those next to them.
+/// The least and the greatest sides, and those next to them.
 fn sides(records: &mut Vec<Record>) {
     for side in [0, 1, MAX_SIDE, MAX_SIDE + 1] {
         for (width, height) in [(side, 1), (1, side), (side, 0)] {
@@ -119,7 +120,7 @@ fn sides(records: &mut Vec<Record>) {
     }
 }
 
-/// Memories that are just too short, and at the limit.
+/// Memories that are one byte too short, and memories at the limit.
 fn lengths(records: &mut Vec<Record>) {
     for len in [11, 12, 13, MAX_MEMORY, MAX_MEMORY + 1, (1 << 32) + 12, 1 << 63, u64::MAX] {
         add(records, |record| record.panel_len = len);
@@ -128,7 +129,7 @@ fn lengths(records: &mut Vec<Record>) {
     add(records, |record| record.slots[5].object = bitmap(1, 1));
 }
 
-/// Counts below and above the slots given, and with no slot vacant.
+/// Counts below and above the number of slots given, and with no vacant slot.
 fn counts(records: &mut Vec<Record>) {
     for count in [0, 1, 5, 7, 256, 257, (1 << 32) + 6, 1 << 63] {
         add(records, |record| record.count = count);

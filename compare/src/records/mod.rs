@@ -1,4 +1,4 @@
-//! Device records: those of docs/record-cases.md, and which are refused.
+//! Device records, as in docs/record-cases.md, and how they are refused.
 
 mod edges;
 mod random;

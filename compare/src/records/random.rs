@@ -1,4 +1,4 @@
-//! Random sound records, of many kinds.
+//! Random records.
 
 use pocket_kernel::gdi::is_stock_handle;
 
@@ -8,7 +8,7 @@ use super::wrong::{junk, WRONG};
 use crate::calls::{bytes_of, MAX_MEMORY, MAX_OBJECTS, MAX_SIDE};
 use crate::rng::Rng;
 
-/// A random record, about as often sound as not.
+/// A random record; about half of them are sound.
 pub fn record(rng: &mut Rng, tally: &mut Tally) -> Record {
     let mut record;
     if rng.one_in(2) {
@@ -29,7 +29,7 @@ pub fn record(rng: &mut Rng, tally: &mut Tally) -> Record {
     record
 }
 
-/// A sound record with this many objects at least.
+/// A sound record with at least this many objects.
 fn sound(rng: &mut Rng, least: usize) -> Record {
     let count = match rng.below(40) {
         0 => MAX_OBJECTS as i64,
@@ -66,7 +66,7 @@ fn sound(rng: &mut Rng, least: usize) -> Record {
     record
 }
 
-/// Bytes of a memory past those in use.
+/// How many bytes a memory has past those in use.
 fn more(rng: &mut Rng) -> u64 {
     match rng.below(4) {
         0 => rng.below(300),
@@ -75,13 +75,13 @@ fn more(rng: &mut Rng) -> u64 {
     }
 }
 
-/// Handles that differ, none 0 or stock: one after another, about the stock ones,
-/// past the last number, far apart; in order or not.
+/// Different handles, none of them 0 or stock: consecutive, near the stock ones,
+/// round the end of 32 bits, far apart; in order or not.
 pub fn handles(rng: &mut Rng, count: usize) -> Vec<u32> {
     let before = rng.below(count as u64 + 1) as u32;
     let any = rng.next() as u32;
     let first = rng.pick(&[0xDEAD_1000, 0xDEAD_5701 - before, 0u32.wrapping_sub(before), any]);
-    // An odd step comes to a number again only after all others.
+    // With an odd step no number repeats before all have been used.
     let step = rng.pick(&[1, 1, 3, 0x0100_0001]);
     let numbers = (0..u32::MAX).map(|n| first.wrapping_add(n.wrapping_mul(step)));
     let free = numbers.filter(|&handle| handle != 0 && !is_stock_handle(handle));
@@ -115,7 +115,7 @@ fn object(rng: &mut Rng) -> Object {
     }
 }
 
-/// A DC whose handles and colours are any numbers.
+/// A DC with random handles and colours.
 pub fn dc(rng: &mut Rng, surface: u8) -> Object {
     Object::Dc {
         surface,
@@ -133,7 +133,7 @@ pub fn dc(rng: &mut Rng, surface: u8) -> Object {
     }
 }
 
-/// Adds slots past the count, where nothing is looked at.
+/// Adds slots past the count, which no check reads.
 fn past_count(rng: &mut Rng, record: &mut Record) {
     for _ in 0..rng.between(1, 4) {
         if record.slots.len() < MAX_OBJECTS {
@@ -143,7 +143,7 @@ fn past_count(rng: &mut Rng, record: &mut Record) {
     }
 }
 
-/// Makes the memories longer than can be lent, up to the limit.
+/// Makes the memories longer than the program can lend, up to the limit.
 fn large(rng: &mut Rng, record: &mut Record) {
     let any = rng.between(i64::from(MOST_LENT) + 1, MAX_MEMORY as i64) as u64;
     let len = rng.pick(&[MAX_MEMORY, MAX_MEMORY - 1, any]);
@@ -157,14 +157,14 @@ fn large(rng: &mut Rng, record: &mut Record) {
     }
 }
 
-/// Lends memories of the record's lengths, as far as there are such.
+/// Lends memories of the record's lengths, or the longest that can be lent.
 pub fn lend_all(record: &mut Record) {
     let most = |len: u64| len.min(MOST_LENT.into()) as u32;
     record.panel_lent = most(record.panel_len);
     record.store_lent = most(record.store_len);
 }
 
-/// Lends these memories, or at times others.
+/// Lends memories of these lengths, sometimes of others.
 fn lend(rng: &mut Rng, record: &mut Record) {
     lend_all(record);
     let (panel, store) = (record.panel_lent, record.store_lent);

@@ -16,7 +16,7 @@ pub const SCREEN: u8 = 0;
 pub const MEMORY: u8 = 1;
 
 table! {
-    /// An object of a slot; flags are 0 or 1.
+    /// The object of a slot. Flags are 0 or 1.
     Object {
         0x00 "DC" Dc {
             surface: u8, chosen: u8, bitmap: u32, brush: u32, pen: u32, font: u32,
@@ -46,7 +46,7 @@ pub struct Record {
     pub frame_counter: u64,
     pub next_handle: u32,
     pub stock_dirty: u8,
-    /// The screen DC's surface; the rest of it is as on a fresh device.
+    /// The screen DC's surface; its other fields are those of a fresh device.
     pub screen: u8,
     pub count: u64,
     /// The slots given; the others are vacant.
@@ -56,7 +56,7 @@ pub struct Record {
 }
 
 impl Record {
-    /// The number with which every call refuses the record, 0 if it does not.
+    /// The number with which every call refuses the record, 0 if none does.
     pub fn refusal(&self) -> u8 {
         if !self.is_sound() {
             9
@@ -70,7 +70,7 @@ impl Record {
     }
 
     /// Whether the record is sound, by the specification's list. Only created DCs
-    /// have to be memory DCs: the screen DC's surface is not looked at.
+    /// must be memory DCs; the screen DC's surface has no effect.
     pub fn is_sound(&self) -> bool {
         let side = |n| (1..=MAX_SIDE).contains(&n);
         let created = self.count.min(self.slots.len() as u64) as usize;
@@ -96,7 +96,7 @@ impl Record {
             && self.pixels() <= self.store_len
     }
 
-    /// The store's bytes that the stock bitmap and all created ones have, whose
+    /// How many bytes of the store the stock bitmap and all created ones need. Their
     /// sides are within the limits.
     pub fn pixels(&self) -> u64 {
         let bytes = |slot: &Slot| match slot.object {
@@ -108,7 +108,7 @@ impl Record {
 }
 
 impl Record {
-    /// Takes a record off the front of a stream; `None` if it is a bad one.
+    /// Reads a record from the front of a stream; `None` if it is a bad record.
     pub fn read(stream: &mut &[u8]) -> Option<Record> {
         let mut record = Record {
             panel_len: u64::read(stream)?,
@@ -134,7 +134,7 @@ impl Record {
         (record.panel_lent.max(record.store_lent) <= MOST_LENT).then_some(record)
     }
 
-    /// Adds the record to a stream.
+    /// Appends the record to a stream.
     pub fn write(&self, stream: &mut Vec<u8>) {
         self.panel_len.write(stream);
         self.store_len.write(stream);
@@ -189,8 +189,8 @@ mod tests {
         for len in 0..bytes.len() {
             assert_eq!(Record::read(&mut &bytes[..len]), None);
         }
-        // The stock bitmap's flag and the screen DC's, the slots given, the first slot's
-        // kind and surface.
+        // The flags of the stock bitmap and of the screen DC, the number of slots, the kind and
+        // surface of the first slot.
         for (at, byte) in [(36, 2), (37, 2), (46, 1), (52, 5), (53, 2)] {
             let mut bytes = bytes.clone();
             bytes[at] = byte;
@@ -225,7 +225,7 @@ mod tests {
         assert_eq!(refusal(|record| record.slots[4].handle = 0), 9);
         assert_eq!(refusal(|record| record.slots[4].handle = 0xDEAD_5720), 9);
         assert_eq!(refusal(|record| record.slots[5].handle = 9), 9);
-        // What is past the count is not looked at.
+        // The slots past the count have no effect.
         assert_eq!(refusal(|record| (record.slots[5].handle, record.count) = (9, 5)), 0);
         assert_eq!(refusal(|record| record.slots[5].object = dc(SCREEN)), 9);
     }

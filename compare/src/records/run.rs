@@ -1,4 +1,4 @@
-//! The comparison: streams of records, the specification's list against a program.
+//! Compares a program with the specification's list on streams of records.
 
 use super::edges;
 use super::random;
@@ -8,11 +8,11 @@ use super::tally::Tally;
 use crate::program::{self, hexadecimal, Progress};
 use crate::rng::Rng;
 
-/// Records in one stream, which is then never too long.
+/// How many records a stream has; with this many it is never too long.
 const BATCH: u64 = 64;
 
-/// A stream of the records at the edges and `count` random ones, the lines for
-/// it and its tally; an error if it is too long.
+/// A stream of the records at the edges and `count` random ones, its lines and its
+/// tally; an error if it is too long.
 pub fn records(count: u64, seed: u64) -> Result<(Vec<u8>, String, Tally), String> {
     let mut tally = Tally::new();
     let mut rng = Rng::new(seed);
@@ -25,8 +25,8 @@ pub fn records(count: u64, seed: u64) -> Result<(Vec<u8>, String, Tally), String
     Ok((stream, lines.join("\n") + "\n", tally))
 }
 
-/// Compares `count` records, stream by stream, each from the next seed. True if
-/// all lines are equal; else the first difference has been printed.
+/// Compares `count` records, stream by stream, each from the next seed. True if all
+/// lines are equal; otherwise it prints the first difference.
 pub fn run(program: &str, count: u64, first: u64) -> Result<bool, String> {
     let mut tally = Tally::new();
     if !compare(program, &stream(edges::records()), "records-edges", &mut tally)? {
@@ -64,7 +64,7 @@ fn stream(records: impl IntoIterator<Item = Record>) -> Vec<u8> {
     stream
 }
 
-/// At times makes the stream a bad one, as a whole or behind its records.
+/// Sometimes makes the stream a bad one, by its first bytes or after its records.
 fn spoil(rng: &mut Rng, stream: &mut Vec<u8>) {
     let mut record = random::record(rng, &mut Tally::new());
     let end = stream.len() as u64;
@@ -85,7 +85,7 @@ fn spoil(rng: &mut Rng, stream: &mut Vec<u8>) {
     record.write(stream);
 }
 
-/// The record of a line, as a stream of its own.
+/// The record of a line, as a stream with one record.
 fn shown(stream: &[u8], at: usize) -> String {
     let mut rest = stream.strip_prefix(MAGIC).unwrap_or_default();
     let mut bytes = MAGIC.to_vec();

@@ -1,4 +1,4 @@
-//! What the records of a comparison were.
+//! Counts of the records of a comparison.
 
 use std::fmt;
 
@@ -8,15 +8,15 @@ use crate::counts::{listed, Counts};
 
 pub struct Tally {
     refused: Counts<3>,
-    /// Unsound records by what is wrong with them.
+    /// Unsound records, by the reason.
     wrong: Counts<{ WRONG.len() }>,
-    /// Slots in the order of `KINDS`.
+    /// The slots of each of `KINDS`.
     kinds: [u64; KINDS.len()],
     /// Records whose handles do not ascend.
     unsorted: u64,
-    /// Records with as many objects as there can be.
+    /// Records with 256 objects.
     full: u64,
-    /// Records that are not refused though their screen DC says `memory`.
+    /// Accepted records whose screen DC has the surface `memory`.
     memory_screens: u64,
 }
 
@@ -32,7 +32,7 @@ impl Tally {
         }
     }
 
-    /// Counts what was made wrong with a record.
+    /// Counts the reason for which a record was made unsound.
     pub fn wrong(&mut self, name: &str) {
         self.wrong.add(name);
     }
@@ -47,7 +47,7 @@ impl Tally {
         self.memory_screens += u64::from(record.screen == MEMORY && refusal == 0);
     }
 
-    /// All records that were read.
+    /// The number of all records that were read.
     pub fn records(&self) -> u64 {
         self.refused.sum()
     }

@@ -1,11 +1,11 @@
-//! What makes a record unsound: one thing each.
+//! Changes that make a record unsound, each for one reason.
 
 use super::random::{dc, handles};
 use super::record::{Object, Record, Slot, MEMORY, SCREEN};
 use crate::calls::{bytes_of, MAX_MEMORY, MAX_OBJECTS, MAX_SIDE, STOCK};
 use crate::rng::Rng;
 
-/// Changes a sound record that has three objects at least.
+/// A change to a sound record that has at least three objects.
 type Change = fn(&mut Rng, &mut Record);
 
 /// The changes and their names.
@@ -25,8 +25,8 @@ pub const WRONG: [(&str, Change); 13] = [
     ("long memory", long_memory),
 ];
 
-/// Sides out of range, mostly just so; two of them may have a product that is 0
-/// in 32 bits.
+/// Sides out of range, mostly by one. The product of two of them can be 0 in 32
+/// bits.
 const SIDES: [u32; 7] = [0, 0, MAX_SIDE + 1, MAX_SIDE + 1, 0x1_0000, 0x8000_0000, u32::MAX];
 
 fn a_slot<'a>(rng: &mut Rng, record: &'a mut Record) -> &'a mut Slot {
@@ -34,7 +34,8 @@ fn a_slot<'a>(rng: &mut Rng, record: &'a mut Record) -> &'a mut Slot {
     &mut record.slots[at]
 }
 
-/// Mostly with no vacant slot, so that only the count is wrong.
+/// A count above 256. Mostly there is no vacant slot, so that only the count is
+/// wrong.
 fn count(rng: &mut Rng, record: &mut Record) {
     if !rng.one_in(4) {
         let object = Object::Font { height: 12 };
@@ -58,7 +59,7 @@ fn neighbours_handle(rng: &mut Rng, record: &mut Record) {
     record.slots[at].handle = record.slots[at - 1].handle;
 }
 
-/// A handle twice, with others between.
+/// A handle that stands twice, with others between.
 fn others_handle(rng: &mut Rng, record: &mut Record) {
     let last = record.count as i64 - 1;
     let (mut first, mut second) = (0, last);
@@ -76,7 +77,7 @@ fn bitmap_side(rng: &mut Rng, record: &mut Record) {
     let small = rng.between(1, 4) as u32;
     let (side, other) = (rng.pick(&SIDES), rng.pick(&SIDES));
     let (width, height) = rng.pick(&[(side, small), (small, side), (side, other)]);
-    // There is room for one that is just too long.
+    // The store has room for a side of 4,097, so that only the side is wrong.
     record.store_len += bytes_of(MAX_SIDE + 1, small);
     let object = Object::Bitmap { width, height, dirty: 0 };
     a_slot(rng, record).object = object;
@@ -86,7 +87,7 @@ fn panel_side(rng: &mut Rng, record: &mut Record) {
     let small = rng.between(1, 4) as u32;
     let (side, other) = (rng.pick(&SIDES), rng.pick(&SIDES));
     (record.width, record.height) = rng.pick(&[(side, small), (small, side), (side, other)]);
-    // Here too.
+    // The panel memory has room for it, so that only the side is wrong.
     record.panel_len = record.panel_len.max(bytes_of(MAX_SIDE + 1, small));
 }
 
@@ -95,7 +96,7 @@ fn panel_memory(rng: &mut Rng, record: &mut Record) {
     record.panel_len = rng.pick(&[panel - 1, panel - 1, panel - 2, 0]);
 }
 
-/// Adds bitmaps that 32 bits count as nothing.
+/// Adds bitmaps whose bytes add up to 0 in 32 bits.
 fn sum_of_32_bits(rng: &mut Rng, record: &mut Record) {
     record.slots.truncate(MAX_OBJECTS - 128);
     let object = Object::Bitmap { width: MAX_SIDE, height: MAX_SIDE, dirty: 0 };
@@ -104,7 +105,7 @@ fn sum_of_32_bits(rng: &mut Rng, record: &mut Record) {
     rename(rng, record);
 }
 
-/// Gives all slots other handles, which differ.
+/// Gives all slots new, different handles.
 fn rename(rng: &mut Rng, record: &mut Record) {
     let handles = handles(rng, record.slots.len());
     for (slot, handle) in record.slots.iter_mut().zip(handles) {

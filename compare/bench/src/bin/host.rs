@@ -1,9 +1,9 @@
-//! Times whole calls on a device through the host library beside the original's,
-//! and beside the pixel work alone: the same drawing by the proved operation on
-//! lent bytes. In each round one after the other, the order changing, each on a
-//! scene of its own; a row has the medians over the rounds. The answers, panels,
-//! bitmaps, snapshots and frame counters must be equal. Every proved call checks
-//! the record anew, which the original never does.
+//! Times whole calls on a device through the host library, the original's calls,
+//! and the pixel work alone: the same drawing by the proved operation on lent
+//! bytes. Each round times all three, in alternating order, each on its own scene;
+//! a row has the medians over the rounds. The answers, panels, bitmaps, snapshots
+//! and frame counters must be equal. Every proved call checks the whole record;
+//! the original has no such check.
 
 #[path = "../proved.rs"]
 #[allow(dead_code)]
@@ -17,8 +17,8 @@ use pocket_kernel::framebuffer::{colorref_to_rgb565, Framebuffer};
 use pocket_kernel::gdi::{rop3, GdiState, Surface, GDI_SCREEN_DC};
 use ravinefork::{Area, Device, Colorref, Handle, Point, Refusal, Rgb565};
 
-/// About how long one of them is timed in a round, in nanoseconds, and how often
-/// it is called at most; fewer than the handles before the stock ones.
+/// About how long each of them runs in a round, in nanoseconds, and the most calls
+/// that it makes: fewer than there are handles before the stock ones.
 const SLICE: f64 = 2e6;
 const MOST: f64 = 8000.0;
 
@@ -46,7 +46,7 @@ enum Call {
     SnapshotPpm,
 }
 
-/// The rows; creation and deletion are two calls.
+/// The rows. Creating and deleting an object are two calls.
 const ROWS: [(&str, Call); 12] = [
     ("set text colour", Call::SetTextColor),
     ("select", Call::Select),
@@ -62,11 +62,12 @@ const ROWS: [(&str, Call); 12] = [
     ("snapshot PPM 240×320", Call::SnapshotPpm),
 ];
 
-/// Created objects while the call is made; a brush or bitmap that it creates is
-/// one.
+/// How many created objects there are during the call, with the one that it
+/// creates.
 const OBJECTS: [u32; 3] = [20, 64, 256];
 
-/// The panel's sides after resize `i`: turned by the first one, back by the next.
+/// The panel's sides after resize `i`: exchanged by the first one, restored by the
+/// next.
 fn sides(i: u32) -> [u32; 2] {
     let [width, height] = PANEL;
     black_box(if i % 2 == 0 { [height, width] } else { PANEL })
@@ -78,8 +79,8 @@ fn brief(snapshot: &[u8]) -> u32 {
     256 * snapshot.len() as u32 + u32::from(snapshot[snapshot.len() / 2])
 }
 
-/// The handles that calls name: those of the last created objects, which stand
-/// at the end of the record.
+/// The handles that the calls use. They are those of the last created objects,
+/// which are at the end of the record.
 #[derive(Clone, Copy)]
 struct Handles {
     dc: u32,
@@ -91,7 +92,7 @@ struct Handles {
 /// rectangle, and a brush.
 trait Scene {
     fn new(brushes: u32) -> Self;
-    /// Makes the call; its answer.
+    /// Makes the call. Returns its answer.
     fn call(&mut self, call: Call, i: u32) -> u32;
 }
 
@@ -293,7 +294,7 @@ impl Scene for Original {
     }
 }
 
-/// The pixel work alone: the proved operation on the panel's bytes.
+/// The pixel work alone: the proved operations on the panel's bytes.
 struct Pixels {
     panel: proved::Surface,
     bitmap: Vec<u8>,
@@ -355,20 +356,20 @@ impl Scene for Pixels {
 }
 
 impl Call {
-    /// Whether its pixel work is timed alone.
+    /// Whether its pixel work is timed separately.
     fn draws(self) -> bool {
         use Call::*;
         matches!(self, PanelFill | Resize | PatternFill | Rectangle | Blit | Text)
     }
 
-    /// The brushes that a scene begins with, beside the DC, the bitmap and the
-    /// last brush.
+    /// How many brushes a scene has at the start, in addition to the DC, the bitmap and
+    /// the last brush.
     fn brushes(self, objects: u32) -> u32 {
         objects - if matches!(self, Call::Brush | Call::Bitmap) { 4 } else { 3 }
     }
 }
 
-/// Nanoseconds for each of `count` calls on a new scene.
+/// The time of one call in nanoseconds, measured over `count` calls on a new scene.
 fn time<S: Scene>(call: Call, brushes: u32, count: u32) -> f64 {
     let mut scene = S::new(brushes);
     let start = Instant::now();
@@ -378,8 +379,8 @@ fn time<S: Scene>(call: Call, brushes: u32, count: u32) -> f64 {
     start.elapsed().as_nanos() as f64 / f64::from(count)
 }
 
-/// Makes the call a hundred times on each, with a rectangle and a text on the
-/// panel: answers, panels, bitmaps, snapshots and frame counters must be equal.
+/// Makes the call a hundred times on each, with a rectangle and a text on the panel.
+/// The answers, panels, bitmaps, snapshots and frame counters must be equal.
 fn check(call: Call, brushes: u32) {
     let (mut host, mut original) = (Host::new(brushes), Original::new(brushes));
     let mut pixels = Pixels::new(brushes);
@@ -415,7 +416,7 @@ fn median(mut times: Vec<f64>) -> f64 {
     times[times.len() / 2]
 }
 
-/// The medians of the call on the device, by the original, and of its pixel work.
+/// The medians of the proved call, the original's call and the pixel work.
 fn measure(call: Call, objects: u32, rounds: u32) -> [f64; 3] {
     let brushes = call.brushes(objects);
     check(call, brushes);
