@@ -6,8 +6,9 @@
 
    Slices are a pointer and a length each. What a caller has to guarantee:
    - Each pointer points to as many elements as its length says.
-   - No two slices of one call overlap. At open: numbers, panel memory and store. At a call: numbers, units, panel memory and
-     store. At a snapshot: the output and the numbers, the output and the panel memory.
+   - A slice that a function writes overlaps no other slice of the same call. So no two of these overlap at open: numbers, panel
+     memory, store; and at a call: numbers, units, panel memory, store. At a snapshot the output overlaps neither the numbers nor
+     the panel memory.
    - Numbers are aligned as uint32_t and units as uint16_t. Panel memory, store and output need no alignment.
    - A slice of length 0 may have any pointer, NULL too. Nothing is read or written through it: every access of a proved function
      lies inside a slice, and an empty one has no element.

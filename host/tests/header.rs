@@ -59,9 +59,10 @@ fn layout() -> String {
     asserts
 }
 
-/// Compiles `tests/SOURCE.c` with these options into a program. Its path, or what
-/// the compiler prints as errors. None where there is no C compiler; then it says
-/// so, past the capture of a test's output, and fails if `REQUIRE_CC` is set.
+/// Compiles `tests/SOURCE.c` with these options. Returns the program's path, or the
+/// compiler's messages if there is an error. Returns none if there is no C compiler:
+/// it then writes a line to standard error, where the test harness does not hide
+/// it, or fails if `REQUIRE_CC` is set.
 fn compiled(source: &str, name: &str, options: &[String]) -> Option<Result<PathBuf, String>> {
     let program = Path::new(env!("CARGO_TARGET_TMPDIR")).join(name);
     let cc = Command::new("cc")
@@ -76,9 +77,8 @@ fn compiled(source: &str, name: &str, options: &[String]) -> Option<Result<PathB
         .output();
     match cc {
         Err(error) if error.kind() == ErrorKind::NotFound => {
-            let skipped = "skipped: no C compiler (cc)";
-            assert!(std::env::var_os("REQUIRE_CC").is_none(), "{skipped}, and REQUIRE_CC is set");
-            _ = writeln!(std::io::stderr(), "{source}.c {skipped}");
+            assert!(std::env::var_os("REQUIRE_CC").is_none(), "no C compiler (cc)");
+            _ = writeln!(std::io::stderr(), "tests/{source}.c skipped: no C compiler (cc)");
             None
         }
         Err(error) => panic!("cc: {error}"),
@@ -121,6 +121,19 @@ fn picture() -> Result<String, Refusal> {
         pixels.chain(['\n']).collect::<String>()
     });
     Ok(rows.collect())
+}
+
+#[test]
+fn the_header_names_each_refusal_once() {
+    let header = std::fs::read_to_string(format!("{FOLDER}/include/ravinefork.h")).expect("text");
+    let (_, refusals) = header.split_once("/* Refusals").expect("the refusals");
+    let named = refusals.lines().skip(1).map_while(|line| {
+        let (_, number) = line.strip_prefix("#define RAVINEFORK_")?.split_once(' ')?;
+        number.parse::<u32>().ok()
+    });
+    let ours =
+        (0..=u16::MAX.into()).filter(|&n| Refusal::new(n).is_some_and(|r| r.meaning().is_some()));
+    assert_eq!(named.collect::<Vec<_>>(), ours.collect::<Vec<_>>());
 }
 
 #[test]

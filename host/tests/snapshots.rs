@@ -1,4 +1,4 @@
-//! Snapshots beside the original's, byte for byte.
+//! Snapshots are equal to the original's, byte for byte.
 
 use pocket_kernel::framebuffer::Framebuffer;
 use ravinefork::Device;
