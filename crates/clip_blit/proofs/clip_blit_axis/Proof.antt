@@ -71,15 +71,6 @@ module _ (c : tie.After-struct-known2) where
   ends : Terms 5 (start +ℤ long)
   ends = sum-terms starts extends
 
-clip-axis-requires : tie.Need-clip-axis-requires
-clip-axis-requires c κs = search needs
-
-cast-s0 : tie.Need-cast-s0
-cast-s0 c = search needs
-
-cast-s1 : tie.Need-cast-s1
-cast-s1 c = search needs
-
 cast-d0 : tie.Need-cast-d0
 cast-d0 c = cast-fits (A c .fits .d)
 
@@ -92,17 +83,11 @@ sub-d0 c = rw (S0 c, S c) (terms-fit (lead c) tt)
 add-d0 : tie.Need-add-d0
 add-d0 c = rw (D c, S0 c, S c, terms-held (lead c) tt) (terms-fit (starts c) tt)
 
-clamp-requires : tie.Need-clamp-requires
-clamp-requires c κs = search needs
-
 sub-clamp : tie.Need-sub-clamp
 sub-clamp c = let b = c .before in rw (S0 b, S1 b) (terms-fit (extends b) tt)
 
 add-clamp : tie.Need-add-clamp
 add-clamp c = let b = c .before in rw (START b, S0 b, S1 b, terms-held (extends b) tt) (terms-fit (ends b) tt)
-
-clamp-requires-2 : tie.Need-clamp-requires-2
-clamp-requires-2 c κs = search needs
 
 -- the destination is clipped
 module _ (c : tie.After-clamp2) where
@@ -153,9 +138,6 @@ module _ (c : tie.Else1) where
   FIRST : held64 (toZ w64 (cut (B C) .from) +ℤ held64 (toZ w64 (from C) -ℤ held64 (held64 (held32 (d (B C))) +ℤ held64 (toZ w64 (cut (B C) .from) -ℤ held64 (held32 (s (B C))))))) ≡ first C
   FIRST = rw (START (B C), S0 (B C), F, terms-held skips tt) (terms-held sums tt)
 
-cast-src : tie.Need-cast-src
-cast-src c = search needs
-
 sub-src : tie.Need-sub-src
 sub-src c = rw (START (B (C c)), F c) (terms-fit (skips c) tt)
 
@@ -175,21 +157,6 @@ returns-2 c =
 pub clip-blit-axis-spec : {M : Type 1} → statement M
 clip-blit-axis-spec =
     tie.close
-    (tie.spec
-    clip-axis-requires
-    cast-s0
-    cast-s1
-    cast-d0
-    cast-d0-2
-    sub-d0
-    add-d0
-    clamp-requires
-    sub-clamp
-    add-clamp
-    clamp-requires-2
-    returns
-    cast-src
-    sub-src
-    add-src
-    cast-src-2
-    returns-2)
+    (tie.spec (λ c κs. search needs) (λ c. search needs) (λ c. search needs) cast-d0 cast-d0-2 sub-d0 add-d0
+    (λ c κs. search needs) sub-clamp add-clamp (λ c κs. search needs) returns (λ c. search needs) sub-src add-src
+    cast-src-2 returns-2)

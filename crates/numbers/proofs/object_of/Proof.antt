@@ -9,33 +9,6 @@ use Rattle.numbers.specs.Block.{objectOf}
 use Rattle.numbers.proofs.object_of.Statement.{statement}
 use Rattle.numbers.proofs.object_of.Tie as tie
 
-dc-of-requires : tie.Need-dc-of-requires
-dc-of-requires c κs = search needs
-
-shared-slice-read-t6 : tie.Need-shared-slice-read-t6
-shared-slice-read-t6 c = search needs
-
-shared-slice-read-t8 : tie.Need-shared-slice-read-t8
-shared-slice-read-t8 c = search needs
-
-shared-slice-read-t10 : tie.Need-shared-slice-read-t10
-shared-slice-read-t10 c = search needs
-
-shared-slice-read-t14 : tie.Need-shared-slice-read-t14
-shared-slice-read-t14 c = search needs
-
-shared-slice-read-t18 : tie.Need-shared-slice-read-t18
-shared-slice-read-t18 c = search needs
-
-shared-slice-read-t21 : tie.Need-shared-slice-read-t21
-shared-slice-read-t21 c = search needs
-
-shared-slice-read-signed : tie.Need-shared-slice-read-signed
-shared-slice-read-signed c = search needs
-
-signed-requires : tie.Need-signed-requires
-signed-requires c κs = search needs
-
 returns : tie.Need-returns
 unfolding objectOf
 returns c = rw (c .before .match .keys1, c .dc-of .ensures)
@@ -56,18 +29,6 @@ returns-5 c = let s = c .before .before in ap (λ (z : ℤ). Font (record { heig
 pub object-of-spec : {M : Type 1} → statement M
 object-of-spec =
     tie.close
-    (tie.spec
-    dc-of-requires
-    shared-slice-read-t6
-    shared-slice-read-t8
-    shared-slice-read-t10
-    shared-slice-read-t14
-    shared-slice-read-t18
-    shared-slice-read-t21
-    shared-slice-read-signed
-    signed-requires
-    returns
-    returns-2
-    returns-3
-    returns-4
-    returns-5)
+    (tie.spec (λ c κs. search needs) (λ c. search needs) (λ c. search needs) (λ c. search needs) (λ c. search needs)
+    (λ c. search needs) (λ c. search needs) (λ c. search needs) (λ c κs. search needs) returns returns-2 returns-3
+    returns-4 returns-5)

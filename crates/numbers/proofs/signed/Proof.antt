@@ -7,14 +7,8 @@ use Rattle.bigendian.proofs.Signed.{low-returns, less-fits, less-cast, high-ret
 use Rattle.numbers.proofs.signed.Statement.{statement}
 use Rattle.numbers.proofs.signed.Tie as tie
 
-cast-result : tie.Need-cast-result
-cast-result c = search needs
-
 returns : tie.Need-returns
 returns c = low-returns (2 ^ 31) (c .if1 .taken) (omega arith) refl
-
-cast-result-2 : tie.Need-cast-result-2
-cast-result-2 c = search needs
 
 sub-result : tie.Need-sub-result
 sub-result c = less-fits (2 ^ 31) (c .if1 .left) (omega arith) (omega arith)
@@ -27,4 +21,5 @@ returns-2 c = high-returns (2 ^ 31) (c .if1 .left) (omega arith) (omega arith) r
 
 pub signed-spec : {M : Type 1} → statement M
 signed-spec =
-    tie.close (tie.spec cast-result returns cast-result-2 sub-result cast-result-3 returns-2)
+    tie.close
+    (tie.spec (λ c. search needs) returns (λ c. search needs) sub-result cast-result-3 returns-2)
