@@ -6,14 +6,14 @@ ghost use Rattle.crc32.specs.Crc32.{bitStep, byteStep, crc32};
 // The polynomial, lowest power in the highest bit.
 const POLYNOMIAL: u32 = 0xEDB8_8320;
 
-// One bit goes out.
+// One shift of the register.
 fn step_bit(c: u32) -> u32
     ensures { λ r. ⌜ r ≡ bitStep c ⌝ }
 {
     (c / 2) ^ (c % 2 * POLYNOMIAL)
 }
 
-// A byte comes in, and eight bits go out.
+// Adds a byte to the register, and shifts it eight times.
 fn step_byte(c: u32, b: u8) -> u32
     ensures { λ r. ⌜ r ≡ byteStep c b ⌝ }
 {

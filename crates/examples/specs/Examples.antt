@@ -98,7 +98,8 @@ unfolding blitFrom blitAxis clippedAxis painted written word applied
 blit-cut-left-pixels = refl
 
 -- on 4 by 3, a fill at x = 1, y = 0, w = 2147483647, h = 3 covers from column 1
-pub fill-to-the-edge : filled 4 (pos 1) (pos 0) (pos 2147483647) (pos 3) 0x1234 (replicate 24 0) ≡ 0 ∷ 0 ∷ 0x34 ∷ 0x12 ∷ 0x34 ∷ 0x12 ∷ 0x34 ∷ 0x12 ∷ 0 ∷ 0 ∷ 0x34 ∷ 0x12 ∷ 0x34 ∷ 0x12 ∷ 0x34 ∷ 0x12 ∷ 0 ∷ 0 ∷ 0x34 ∷ 0x12 ∷ 0x34 ∷ 0x12 ∷ 0x34 ∷ 0x12 ∷ []
+pub fill-to-the-edge : filled 4 (pos 1) (pos 0) (pos 2147483647) (pos 3) 0x1234 (replicate 24 0)
+    ≡ 0 ∷ 0 ∷ 0x34 ∷ 0x12 ∷ 0x34 ∷ 0x12 ∷ 0x34 ∷ 0x12 ∷ 0 ∷ 0 ∷ 0x34 ∷ 0x12 ∷ 0x34 ∷ 0x12 ∷ 0x34 ∷ 0x12 ∷ 0 ∷ 0 ∷ 0x34 ∷ 0x12 ∷ 0x34 ∷ 0x12 ∷ 0x34 ∷ 0x12 ∷ []
 unfolding painted written
 fill-to-the-edge = refl
 

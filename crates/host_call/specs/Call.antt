@@ -1,4 +1,4 @@
--- Which call numbers are.
+-- The call that numbers stand for.
 use mathlib.Core.Bool.{cond}
 use lib.Dec.{eqb, leb}
 use Rattle.plan.specs.declared.Area.{Area}

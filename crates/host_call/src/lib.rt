@@ -7,7 +7,7 @@ use plan::Area;
 use plan::Call;
 use plan::Point;
 
-// A call by its number in call scripts. What a call does not name is not looked at: `a` is a bitmap's or a panel's width, a
+// A call, by its number in call scripts. Fields that the call does not use are ignored: `a` is a bitmap's or a panel's width, a
 // colour, an object's handle, a setting or a raster code, `b` a height or a pen's width; `h` is a font's height too.
 #[repr(C)]
 pub struct HostCall {
@@ -55,7 +55,7 @@ fn from_of(c: HostCall) -> Point
     }
 }
 
-// The call that the numbers are.
+// The call that the numbers stand for.
 pub fn call_of(c: HostCall) -> ParsedCall
     ensures { λ r. ⌜ r ≡ callOf c ⌝ }
 {

@@ -35,7 +35,7 @@ at-most b n least v k p m h f = by (decLt n k)
     by (yes more) = omega (arith, f .2 (omega arith), pow-le-pow-right {n = b} p {i = n} {j = k - 1} (omega arith))
     by (no same) = omega arith
 
--- and n, if it is asked for n of them
+-- and exactly n if n are asked for
 pub as-wide : (n v k : ℕ) → 1 ≤ n → n ≤ 16 → v < 16 ^ n → Fewest 16 (min (max n 1) 16) v k → k ≡ n
 as-wide n v k o m h f = omega (arith, f .0, at-most 16 n (min (max n 1) 16) v k (omega arith) (omega arith) h f)
 

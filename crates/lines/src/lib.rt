@@ -1,4 +1,5 @@
-// A line of output as it grows: words, and numbers in lower-case hexadecimal or in decimal. A caller owes that there is room.
+// A line of output, made piece by piece: text, and numbers in lower-case hexadecimal or in decimal. The caller ensures that
+// there is room.
 ghost use mathlib.Core.Bool.{cond};
 ghost use mathlib.Core.List.{[], _∷_};
 ghost use mathlib.Core.Path.{_≡_};
@@ -7,13 +8,13 @@ ghost use lib.ListN.{length};
 ghost use Rattle.io.specs.Digits.{digits};
 ghost use Rattle.lines.specs.Lines.{Added, DecimalAdded, SignedAdded};
 
-// The first len bytes are the line so far. The longest, of a device's counters, can have 125 with its end.
+// The first len bytes are the line so far. The longest line, with a device's counters, has at most 125 bytes with its end.
 pub struct Line {
     pub bytes: [u8; 160],
     pub len: usize,
 }
 
-// A line with nothing in it yet.
+// An empty line.
 pub fn empty() -> Line
     ensures { λ r. ⌜ r .len ≡ 0 ⌝ }
 {
@@ -24,7 +25,7 @@ pub fn empty() -> Line
 }
 
 impl Line {
-    // One more character.
+    // Adds a character.
     pub fn put(mut self, c: u8) -> Line
         requires { ⌜ self .len < 160 ⌝ }
         ensures { λ r. ⌜ Added self 1 (c ∷ []) r ⌝ }
@@ -35,7 +36,7 @@ impl Line {
         self
     }
 
-    // The space between two words.
+    // Adds a space.
     pub fn space(self) -> Line
         requires { ⌜ self .len < 160 ⌝ }
         ensures { λ r. ⌜ Added self 1 (32 ∷ []) r ⌝ }
@@ -43,7 +44,7 @@ impl Line {
         self.put(b' ')
     }
 
-    // 1 for true, 0 for false.
+    // Adds 1 for true, 0 for false.
     pub fn flag(self, b: bool) -> Line
         requires { ⌜ self .len < 160 ⌝ }
         ensures { λ r. ⌜ Added self 1 (cond b 49 48 ∷ []) r ⌝ }
@@ -54,7 +55,7 @@ impl Line {
         self.put(b'0')
     }
 
-    // The characters of s.
+    // Adds the characters of s.
     pub fn text(self, s: &[u8]) -> Line
         requires { ⌜ self .len + length (now s) ≤ 160 ⌝ }
         ensures { λ r. ⌜ Added self (length (now (s .entry))) (now (s .entry)) r ⌝ }
@@ -66,7 +67,7 @@ impl Line {
         out
     }
 
-    // A byte.
+    // Adds a byte in two hexadecimal digits.
     pub fn hex2(self, v: u8) -> Line
         requires { ⌜ self .len + 2 ≤ 160 ⌝ }
         ensures { λ r. ⌜ Added self 2 (digits 16 2 v) r ⌝ }
@@ -74,7 +75,7 @@ impl Line {
         self.hex(v as u64, 2)
     }
 
-    // A word.
+    // Adds a word in four hexadecimal digits.
     pub fn hex4(self, v: u16) -> Line
         requires { ⌜ self .len + 4 ≤ 160 ⌝ }
         ensures { λ r. ⌜ Added self 4 (digits 16 4 v) r ⌝ }
@@ -82,7 +83,7 @@ impl Line {
         self.hex(v as u64, 4)
     }
 
-    // A number of 32 bits.
+    // Adds a number of 32 bits in eight hexadecimal digits.
     pub fn hex8(self, v: u32) -> Line
         requires { ⌜ self .len + 8 ≤ 160 ⌝ }
         ensures { λ r. ⌜ Added self 8 (digits 16 8 v) r ⌝ }
@@ -90,7 +91,7 @@ impl Line {
         self.hex(v as u64, 8)
     }
 
-    // A number of n hexadecimal digits.
+    // Adds a number in n hexadecimal digits.
     fn hex(self, v: u64, n: usize) -> Line
         requires { ⌜ (1 ≤ n) × (n ≤ 16) ⌝ }
         requires { ⌜ v < 16 ^ n ⌝ }
@@ -102,7 +103,7 @@ impl Line {
         self.text(&places[..k])
     }
 
-    // A number in decimal, without zeros in front.
+    // Adds a number in decimal, without leading zeros.
     pub fn decimal(self, v: u64) -> Line
         requires { ⌜ self .len + 20 ≤ 160 ⌝ }
         ensures { λ r. ⌜ DecimalAdded self v r ⌝ }
@@ -112,7 +113,7 @@ impl Line {
         self.text(&places[..k])
     }
 
-    // The same with a sign in front of a negative number.
+    // Adds a signed number in decimal; a negative one has a minus sign.
     pub fn signed_decimal(self, v: i32) -> Line
         requires { ⌜ self .len + 21 ≤ 160 ⌝ }
         ensures { λ r. ⌜ SignedAdded self v r ⌝ }
@@ -123,7 +124,7 @@ impl Line {
         self.decimal(v as u64)
     }
 
-    // Writes the line with its end, in one call.
+    // Writes the line and a newline, in one call.
     pub fn print(self)
         requires { ⌜ self .len < 160 ⌝ }
     {

@@ -13,7 +13,7 @@ use Rattle.p6.specs.P6.{digits, decimal, header}
 use Rattle.p6.specs.Inner.{put}
 use Rattle.p6.proofs.Put.{stored, stored-behind, put-behind}
 
--- as many digits as there are
+-- any bound from n on gives the same digits
 digits-same : (k j n : ℕ) → n ≤ k → n ≤ j → digits k n ≡ digits j n
 unfolding digits
 digits-same zero zero n h g = refl
@@ -39,7 +39,7 @@ decimal-more zero h = absurd (omega arith)
 decimal-more (suc n) h =
     rw (le-ltb (suc n) 10 h) (ap (λ (l : List ℕ). l ++ ((48 + suc n % 10) ∷ [])) (digits-same n (suc n / 10) (suc n / 10) (omega arith) (omega arith)))
 
--- how many
+-- the number of digits
 pub length-one : (n : ℕ) → n < 10 → length (decimal n) ≡ 1
 length-one n h = ap length (decimal-one n h)
 
@@ -67,7 +67,7 @@ few-digits (suc k) n h = by (few-digits k (n / 10) (omega (arith, pow-suc 10 (su
     by f (yes a) = omega (arith, length-one n a)
     by f (no a) = omega (arith, length-more n (omega arith))
 
--- a digit that is stored, alone or behind the others
+-- a digit that is stored, alone or behind the digits before it
 pub put-digit : (m : List ℕ) (at n : ℕ) → n < 10 → at + length (decimal n) ≤ length m → set m at (48 + n % 10) ≡ put m at (decimal n)
 put-digit m at n h fits = rw (decimal-one n h) (stored ((48 + n % 10) ∷ []) m at (omega (arith, length-one n h)))
 
@@ -80,7 +80,7 @@ pub length-header : (w h : ℕ) → length (header w h) ≡ 9 + length (decimal 
 unfolding header
 length-header w h = simp length-append (omega arith)
 
--- of sides of 32 bits it has 29 bytes at most
+-- at most 29 bytes for sides of 32 bits
 pub header-few : (w h : ℕ) → w < 10 ^ 10 → h < 10 ^ 10 → length (header w h) ≤ 29
 header-few w h a b = omega (arith, length-header w h, few-digits 9 w a, few-digits 9 h b)
 

@@ -10,7 +10,7 @@ use lib.Seq.{paste, sets, take-length, sets-eq, take-at, drop-at, drop-drop, len
 use Rattle.p6.specs.Joined.{joined}
 use Rattle.p6.specs.Inner.{put}
 
--- all of a memory is put
+-- a piece as long as the memory
 pub put-all : (m xs : List ℕ) → length m ≡ length xs → put m 0 xs ≡ xs
 put-all m xs e = rw (drop-of-length-le m {i = 0 + length xs} (omega arith)) (append-nil xs)
 
@@ -57,7 +57,7 @@ put-copy m p xs = rw (take-length xs) (append-assoc (take p m) xs (drop (p + len
 pub stored : (xs m : List ℕ) (p : ℕ) → p + length xs ≤ length m → sets m p xs ≡ put m p xs
 stored xs m p h = sets-eq xs m p h ∙ append-assoc (take p m) xs (drop (p + length xs) m)
 
--- and behind a piece
+-- bytes stored behind a piece
 pub stored-behind : (xs ys m : List ℕ) (p : ℕ) → p + length xs + length ys ≤ length m → sets (put m p xs) (p + length xs) ys ≡ put m p (xs ++ ys)
 stored-behind xs ys m p h = stored ys (put m p xs) (p + length xs) (omega (arith, length-put m p xs (omega arith))) ∙ put-put m p xs ys h
 
@@ -66,12 +66,13 @@ unfolding joined
 length-joined f w each zero = sym (mul-zero w)
 length-joined f w each (suc k) = length-append (joined f k) (f k) ∙ omega (arith, length-joined f w each k, each k, mul-suc w k)
 
--- some pieces of w bytes each: before the first, and with the next
+-- pieces of w bytes each: none yet, and one more
 pub put-first : (f : ℕ → List ℕ) (m : List ℕ) (p : ℕ) → m ≡ put m p (joined f 0)
 unfolding joined
 put-first f m p = sym (ap (λ (k : ℕ). take p m ++ drop k m) (add-zero p) ∙ take-append-drop p m)
 
-pub put-next : (f : ℕ → List ℕ) (w : ℕ) → ((i : ℕ) → length (f i) ≡ w) → (m₀ : List ℕ) (at k : ℕ) {m xs : List ℕ} {q : ℕ} → at + (w * k + w) ≤ length m₀ → m ≡ put m₀ at (joined f k) → q ≡ at + w * k → xs ≡ f k → put m q xs ≡ put m₀ at (joined f (k + 1))
+pub put-next : (f : ℕ → List ℕ) (w : ℕ) → ((i : ℕ) → length (f i) ≡ w) → (m₀ : List ℕ) (at k : ℕ) {m xs : List ℕ} {q : ℕ} → at + (w * k + w) ≤ length m₀
+    → m ≡ put m₀ at (joined f k) → q ≡ at + w * k → xs ≡ f k → put m q xs ≡ put m₀ at (joined f (k + 1))
 unfolding joined
 put-next f w each m₀ at k h e i g =
     let len = length-joined f w each k in

@@ -21,6 +21,6 @@ header w h = (80 ∷ 54 ∷ 10 ∷ []) ++ (decimal w ++ ((32 ∷ []) ++ (decimal
 abbrev pub p6 : (width height : ℕ) → (samples : List ℕ) → List ℕ
 p6 w h samples = header w h ++ samples
 
--- how long the picture is
+-- the length of the picture
 abbrev pub ppmLength : (width height : ℕ) → ℕ
 ppmLength w h = length (header w h) + 3 * (w * h)

@@ -28,7 +28,7 @@ first t (b ∷ s) = t b
 abbrev pub magic : (List ℕ → Picture) → List ℕ → Picture
 magic k s = cond (first (eqb 80) s && first (eqb 54) (drop 1 s)) (k (drop 2 s)) none
 
--- the bytes from the first on that is not white space
+-- the bytes from the first one that is not white space
 unfoldable pub pastSpace : List ℕ → List ℕ
 pastSpace [] = []
 pastSpace (b ∷ s) = cond (isSpace b) (pastSpace s) (b ∷ s)
@@ -37,7 +37,7 @@ pastSpace (b ∷ s) = cond (isSpace b) (pastSpace s) (b ∷ s)
 abbrev pub whitespace : (List ℕ → Picture) → List ℕ → Picture
 whitespace k s = cond (first isSpace s) (k (pastSpace s)) none
 
--- a single whitespace character
+-- exactly one character of white space
 abbrev pub oneSpace : (List ℕ → Picture) → List ℕ → Picture
 oneSpace k s = cond (first isSpace s) (k (drop 1 s)) none
 

@@ -1,11 +1,11 @@
-// P6 pictures: how long one is, and its header.
+// P6 pictures: the length of one, and its header.
 ghost use mathlib.Core.Path.{_≡_};
 ghost use Prim.Native.Nat.{_+_, _≤_};
 ghost use lib.ListN.{length};
 ghost use Rattle.p6.specs.P6.{decimal, header, ppmLength};
 ghost use Rattle.p6.specs.Inner.{put};
 
-// How long the picture of a surface is.
+// The length of the picture of a surface.
 pub fn ppm_len(width: u32, height: u32) -> usize
     requires { ⌜ (width ≤ 4096) × (height ≤ 4096) ⌝ }
     ensures { λ r. ⌜ r ≡ ppmLength width height ⌝ }
@@ -13,7 +13,7 @@ pub fn ppm_len(width: u32, height: u32) -> usize
     9 + decimal_len(width) + decimal_len(height) + 3 * ((width as usize) * (height as usize))
 }
 
-// Puts the header first, and answers how long it is.
+// Writes the header at the start of the output; returns its length.
 pub fn put_header(out: &mut [u8], width: u32, height: u32) -> usize
     requires { ⌜ length (header width height) ≤ length (now out) ⌝ }
     ensures { λ r. ⌜ r ≡ length (header width height) ⌝ }
@@ -26,7 +26,7 @@ pub fn put_header(out: &mut [u8], width: u32, height: u32) -> usize
     put_bytes(out, end, b"\n255\n")
 }
 
-// Puts n in decimal from `at` on, and answers where it ends.
+// Writes n in decimal from `at` on; returns where it ends.
 fn put_decimal(out: &mut [u8], at: usize, n: u32) -> usize
     requires { ⌜ at + length (decimal n) ≤ length (now out) ⌝ }
     ensures { λ r. ⌜ r ≡ at + length (decimal n) ⌝ }
@@ -41,7 +41,7 @@ fn put_decimal(out: &mut [u8], at: usize, n: u32) -> usize
     last + 1
 }
 
-// How many digits n has.
+// The number of digits of n.
 fn decimal_len(n: u32) -> usize
     ensures { λ r. ⌜ r ≡ length (decimal n) ⌝ }
 {
@@ -51,7 +51,7 @@ fn decimal_len(n: u32) -> usize
     decimal_len(n / 10) + 1
 }
 
-// Puts some bytes from `at` on, and answers where they end.
+// Writes bytes from `at` on; returns where they end.
 pub fn put_bytes(out: &mut [u8], at: usize, bytes: &[u8]) -> usize
     requires { ⌜ at + length (now bytes) ≤ length (now out) ⌝ }
     ensures { λ r. ⌜ r ≡ at + length (now (bytes .entry)) ⌝ }

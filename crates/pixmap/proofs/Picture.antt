@@ -62,7 +62,7 @@ module _ (s : List ℕ) where
   unfolding pictureOf
   no-picture e = rw e
 
--- every picture has room
+-- the longest picture
 pub room : (w h : ℕ) → w ≤ 144 → h ≤ 144 → ppmLength w h ≤ 62223
 room w h a b = omega (arith, length-header w h, few-digits 2 w (omega arith), few-digits 2 h (omega arith), mul-le-mul a b)
 
@@ -76,7 +76,7 @@ all-behind s = take-all (length s - 4) (drop 4 s) (omega (arith, length-drop 4 s
 pub pixels-long : (s : List ℕ) {w h : ℕ} → w ≡ be16 s 0 → h ≡ be16 s 2 → length s ≡ 4 + 2 * (be16 s 0 * be16 s 2) → 2 * (w * h) ≤ length (take (length s - 4) (drop 4 s))
 pixels-long s e f len = rw (e, f, all-behind s) (omega (arith, length-drop 4 s))
 
--- A picture in its part of the output, which is put back: how long it is, and the output with it.
+-- A picture written into its part of the output: its length, and the output afterwards.
 module _ (s : List ℕ) {n w h : ℕ} (is : isPicture s ≡ true) (e : w ≡ be16 s 0) (f : h ≡ be16 s 2) (len : n ≡ ppmLength w h) where
   pub picture-length : n ≡ length (pictureOf s)
   picture-length = rw (len, a-picture s is, e, f) (sym (length-ppm (be16 s 0) (be16 s 2) (drop 4 s)))

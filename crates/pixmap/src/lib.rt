@@ -9,13 +9,13 @@ ghost use Rattle.p6.specs.Inner.{put};
 // The longest side that is served.
 const LONGEST_SIDE: u16 = 144;
 
-// The length of the longest input that is a picture: two sides, and as many words as they say.
+// The length of the longest input that is a picture: two sides and their pixels.
 pub const LONGEST_INPUT: usize = 41_476;
 
 // The length of the longest picture.
 pub const LONGEST_PICTURE: usize = 62_223;
 
-// Writes the picture of the input first, or `no picture`, and answers how many bytes it has.
+// Writes the input's picture, or `no picture`, at the start of the output; returns how many bytes were written.
 pub fn write_picture(input: &[u8], out: &mut [u8]) -> usize
     requires { ⌜ 62223 ≤ length (now out) ⌝ }
     ensures { λ r. ⌜ r ≡ length (pictureOf (now (input .entry))) ⌝ }

@@ -6,7 +6,7 @@ use color::Rgb555;
 use color::Rgb565;
 use lines::Line;
 ghost use mathlib.Core.Path.{_≡_};
-ghost use Prim.Native.Nat.{_+_, _<_};
+ghost use Prim.Native.Nat.{_+_, _≤_, _<_};
 ghost use lib.ListN.{length};
 ghost use Rattle.primitives.specs.Cases.{Fitting};
 
@@ -154,35 +154,41 @@ fn sweep(c: &[u8]) -> Reply
 fn sweep_line(block: u8) -> Line
     ensures { λ r. ⌜ r .len ≡ 32 ⌝ }
 {
-    let l = line::start(0x07)
-        .space()
-        .hex2(block)
-        .space()
-        .hex8(widened_crc(block));
-    l.space()
-        .hex8(converted_crc(0x03, block))
-        .space()
-        .hex8(converted_crc(0x04, block))
+    let widened = with_swept(line::start(0x07).space().hex2(block), 0x02, block, 3);
+    let from555 = with_swept(widened, 0x03, block, 2);
+    with_swept(from555, 0x04, block, 2)
 }
 
-// The CRC of R, G and B of the words of a block, widened.
-fn widened_crc(block: u8) -> u32 {
+// The line with the CRC of a block that case 02, 03 or 04 works out.
+fn with_swept(l: Line, kind: u8, block: u8, step: usize) -> Line
+    requires { ⌜ (l .len ≤ 30) × (step ≤ 3) ⌝ }
+    ensures { λ r. ⌜ r .len ≡ l .len + 9 ⌝ }
+{
+    l.space().hex8(swept_crc(kind, block, step))
+}
+
+// The CRC of what case 02, 03 or 04 makes of the words of a block: `step` bytes of each.
+fn swept_crc(kind: u8, block: u8, step: usize) -> u32
+    requires { ⌜ step ≤ 3 ⌝ }
+{
     let mut bytes = [0u8; 768];
     let first = 256 * (block as u16);
     for k in 0u16..256 {
-        samples::put_rgb(&mut bytes, 3 * (k as usize), first + k);
+        put_swept(&mut bytes, step * (k as usize), kind, first + k);
     }
-    crc32::crc32(&bytes)
+    let end = 256 * step;
+    crc32::crc32(&bytes[0..end])
 }
 
-// The CRC of the words of a block, as case 03 or 04 converts them.
-fn converted_crc(kind: u8, block: u8) -> u32 {
-    let mut bytes = [0u8; 512];
-    let first = 256 * (block as u16);
-    for k in 0u16..256 {
-        put_word(&mut bytes, 2 * (k as usize), converted(kind, first + k));
+// Puts R, G and B of a word, widened, or the word as case 03 or 04 converts it, from `at` on.
+fn put_swept(out: &mut [u8], at: usize, kind: u8, v: u16)
+    requires { ⌜ at + 2 < length (now out) ⌝ }
+{
+    if kind == 0x02 {
+        samples::put_rgb(out, at, v);
+    } else {
+        put_word(out, at, converted(kind, v));
     }
-    crc32::crc32(&bytes)
 }
 
 // Puts a word from `at` on, its high byte first.

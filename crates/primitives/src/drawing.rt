@@ -204,7 +204,7 @@ fn with_source(c: &[u8], mem: &mut [u8], lent: Lent, n: usize) -> surface::Drawn
     blitted(c, mem, lent, &source, n)
 }
 
-// The same with the bytes at hand, the first n of source.
+// The same on the first n bytes of `source`.
 fn blitted(c: &[u8], mem: &mut [u8], lent: Lent, source: &[u8], n: usize) -> surface::Drawn
     requires { ⌜ (45 ≤ length (now c)) × (n ≤ length (now source)) ⌝ }
     requires { ⌜ lent .len ≤ length (now mem) ⌝ }
@@ -307,7 +307,7 @@ fn text_reply(size: usize, drawn: surface::Advance, mem: &[u8], lent: Lent) -> R
     }
 }
 
-// The text that case 17 names, of count units that go round n.
+// The text that case 17 names, of count units: the n of the case, repeated.
 fn with_units(c: &[u8], mem: &mut [u8], lent: Lent, count: usize, n: usize) -> surface::Advance
     requires { ⌜ (count ≤ 65600) × ((0 < n) × (20 + 2 * n ≤ length (now c))) ⌝ }
     requires { ⌜ lent .len ≤ length (now mem) ⌝ }
@@ -318,7 +318,7 @@ fn with_units(c: &[u8], mem: &mut [u8], lent: Lent, count: usize, n: usize) -> s
     text_drawn(c, mem, lent, &units, count)
 }
 
-// The first count units: they go round the n of the case, and number stop is 0.
+// Writes the first count units: the n of the case, repeated; unit number stop is 0.
 fn put_units(c: &[u8], units: &mut [u16], count: usize, stop: usize, n: usize)
     requires { ⌜ (0 < n) × (20 + 2 * n ≤ length (now c)) ⌝ }
     requires { ⌜ count ≤ length (now units) ⌝ }
@@ -338,7 +338,7 @@ fn unit(c: &[u8], at: usize, stopped: bool) -> u16
     bigendian::read_u16(c, at)
 }
 
-// The same with the units at hand, the first count of them.
+// The same on the first count units of `units`.
 fn text_drawn(c: &[u8], mem: &mut [u8], lent: Lent, units: &[u16], count: usize) -> surface::Advance
     requires { ⌜ (20 ≤ length (now c)) × (count ≤ length (now units)) ⌝ }
     requires { ⌜ lent .len ≤ length (now mem) ⌝ }

@@ -6,7 +6,7 @@ mod line;
 mod memory;
 mod within;
 
-use libc::STDIN_FILENO;
+use harness::LONGEST;
 use libc::STDOUT_FILENO;
 use line::Reply;
 use memory::Answer;
@@ -16,9 +16,6 @@ ghost use mathlib.Core.Path.{_≡_};
 ghost use Prim.Native.Nat.{_<_};
 ghost use lib.ListN.{length};
 ghost use Rattle.primitives.specs.Cases.{Served, Sound, Fitting, Answered};
-
-// A longer script is a bad one.
-const LONGEST: usize = 1_048_576;
 
 // `PRM2`
 const MAGIC: u32 = 0x5052_4D32;
@@ -39,14 +36,14 @@ struct Ended {
     surface: Sides,
 }
 
-// Reads the script, and one byte more if it is too long.
+// Reads the script, and works it out.
 fn main() {
     let mut script = [0u8; LONGEST + 1];
-    let n = io::read_full(STDIN_FILENO, &mut script);
+    let n = harness::read_input(&mut script);
     run(&script[..n]);
 }
 
-// The whole of a script.
+// Works out a whole script.
 fn run(s: &[u8]) {
     match mode_of(s) {
         Mode::Answers => perform(s, true),
@@ -105,7 +102,7 @@ fn run_cases(s: &[u8], mem: &mut [u8], shown: bool) -> Ended
     end_at(state, true)
 }
 
-// The end at this state.
+// The end of a list of cases in this state.
 fn end_at(state: State, good: bool) -> Ended
     requires { ⌜ Sound state ⌝ }
     ensures { λ r. ⌜ Served (r .surface) ⌝ }

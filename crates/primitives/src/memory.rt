@@ -43,7 +43,7 @@ pub fn first() -> State
     surface_lent(Sides { w: 1, h: 1 }, 1)
 }
 
-// A surface of n words, which is lent as it is.
+// The state with a surface of n words, lent whole.
 fn surface_lent(surface: Sides, n: usize) -> State
     requires { ⌜ Served surface × (n ≤ 76800) ⌝ }
     ensures { λ r. ⌜ Sound r ⌝ }
@@ -56,7 +56,7 @@ fn surface_lent(surface: Sides, n: usize) -> State
     State { surface, lent }
 }
 
-// The answer that a reply and the state after it make.
+// The answer with a reply and the state after it.
 pub fn with_state(reply: Reply, state: State) -> Answer
     requires { ⌜ Sound state ⌝ }
     ensures { λ r. ⌜ (r .size ≡ reply .size) × ((r .line .len ≡ reply .line .len) × Sound (r .state)) ⌝ }
@@ -89,7 +89,7 @@ pub fn make(c: &[u8], mem: &mut [u8], state: State) -> Answer
     with_state(new_surface(c, mem, n), surface_lent(sides, n))
 }
 
-// Case 10's words, of which there are n, and its reply.
+// Fills the n words of case 10; its reply.
 fn new_surface(c: &[u8], mem: &mut [u8], n: usize) -> Reply
     requires { ⌜ 9 ≤ length (now c) ⌝ }
     requires { ⌜ length (now mem) ≡ 153600 ⌝ }
@@ -159,7 +159,7 @@ pub fn with_crc(l: Line, mem: &[u8], len: usize) -> Line
     l.space().hex8(crc32::crc32(&mem[0..len]))
 }
 
-// The first n words, all black for the seed 0, else the generator's.
+// Fills the first n words: with 0 for the seed 0, else with the generator's words.
 pub fn fill_words(mem: &mut [u8], n: usize, seed: u32)
     requires { ⌜ 2 * n ≤ length (now mem) ⌝ }
 {
@@ -170,7 +170,7 @@ pub fn fill_words(mem: &mut [u8], n: usize, seed: u32)
     }
 }
 
-// The generator's words from a seed on.
+// Fills the first n words with the generator's words from a seed on.
 fn generate_words(mem: &mut [u8], n: usize, seed: u32)
     requires { ⌜ 2 * n ≤ length (now mem) ⌝ }
 {

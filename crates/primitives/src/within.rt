@@ -27,7 +27,7 @@ pub fn blit_within(c: &[u8], mem: &mut [u8], sides: Sides) -> Reply
     }
 }
 
-// Case 19: a blit between two surfaces, one at the memory's begin and one right behind it.
+// Case 19: a blit between two surfaces, one at the start of the memory and one right behind it.
 pub fn blit_between(c: &[u8], mem: &mut [u8]) -> Reply
     requires { ⌜ length (now mem) ≡ 153600 ⌝ }
     ensures { λ r. ⌜ Fitting (now (c .entry)) r ⌝ }

@@ -7,23 +7,20 @@ mod tried;
 ghost use mathlib.Core.Path.{_≡_};
 ghost use lib.ListN.{length};
 ghost use Rattle.numbers.specs.Layout.{recordSize};
-use libc::STDIN_FILENO;
+use harness::LONGEST;
 use tried::Told;
-
-// A longer stream is a bad one.
-const LONGEST: usize = 1_048_576;
 
 // `REC1`
 const MAGIC: u32 = 0x5245_4331;
 
-// Reads the stream, and one byte more if it is too long.
+// Reads the stream, and tries its records.
 fn main() {
     let mut stream = [0u8; LONGEST + 1];
-    let n = io::read_full(STDIN_FILENO, &mut stream);
+    let n = harness::read_input(&mut stream);
     run(&stream[..n]);
 }
 
-// The whole of a stream.
+// Tries the records of a whole stream.
 fn run(s: &[u8]) {
     if begins_well(s) {
         let mut numbers = [0u32; numbers::RECORD];
@@ -44,7 +41,7 @@ fn begins_well(s: &[u8]) -> bool {
     bigendian::read_u32(s, 0) == MAGIC
 }
 
-// A line for each record, whose numbers are put into `l`; a bad one ends them.
+// Prints a line for each record, whose numbers are put into `l`; a bad record ends the list.
 fn try_all(s: &[u8], numbers: &mut [u32])
     requires { ⌜ length (now numbers) ≡ recordSize ⌝ }
 {

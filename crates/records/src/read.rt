@@ -83,7 +83,7 @@ pub fn record(s: &[u8], at: usize, numbers: &mut [u32]) -> Case
     lent(s, slots.next)
 }
 
-// A bad record, which takes all that is left of a stream of n bytes.
+// A bad record: it takes the rest of a stream of n bytes.
 fn bad(n: usize) -> Case
     ensures { λ r. ⌜ Taken n n r ⌝ }
 {
@@ -120,7 +120,7 @@ fn lent(s: &[u8], at: usize) -> Case
     }
 }
 
-// Puts the numbers of a record that stand in front of its slots, read from `at` on.
+// Puts the numbers in front of a record's slots, read from `at` on.
 fn put_head(s: &[u8], at: usize, numbers: &mut [u32])
     requires { ⌜ (at + 48 ≤ length (now s)) × (length (now numbers) ≡ recordSize) ⌝ }
 {
@@ -158,7 +158,8 @@ fn put_flags(s: &[u8], at: usize, numbers: &mut [u32])
     numbers[numbers::STOCK_DIRTY] = numbers::flag_number(s[at + 36] == 1);
 }
 
-// The number in the eight bytes from `at` on, a length or a count. One of over 32 bits is 0xFFFF_FFFF, refused with 9 as it is.
+// A length or a count in the eight bytes from `at` on. One of more than 32 bits is read as 0xFFFF_FFFF, which is refused with
+// 9 as well.
 fn read_most(s: &[u8], at: usize) -> u32
     requires { ⌜ at + 8 ≤ length (now s) ⌝ }
 {

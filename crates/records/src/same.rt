@@ -11,7 +11,7 @@ pub fn copy(from: &[u32], to: &mut [u32])
     }
 }
 
-// Whether numbers are the same.
+// Whether two lists of numbers are equal.
 pub fn are_same(a: &[u32], b: &[u32]) -> bool
     requires { ⌜ length (now b) ≡ length (now a) ⌝ }
 {

@@ -16,13 +16,13 @@ use plan::Area;
 use plan::Call;
 use plan::Point;
 
-// As many tries there are: each of the eighteen calls, and blit by a second code.
+// The number of tries: each of the eighteen calls, and blit with a second code.
 const TRIES: u8 = 19;
 
 // The units of the text.
 const UNITS: [u16; 3] = [0x52, 0x41, 0x56];
 
-// What all calls say of a record: 9, 8, or 0 for neither; that a refused one changed something; that they do not agree.
+// How the calls refuse a record: with 9, with 8, or 0 for neither; a refused call changed something; the calls do not agree.
 pub enum Told {
     Number(u32),
     Changed,
@@ -35,7 +35,7 @@ struct Crcs {
     store: u32,
 }
 
-// What the calls say of a record, on memories of the lengths that are lent with it.
+// How the calls refuse a record, on memories of the lengths that are lent with it.
 pub fn on_memories(numbers: &[u32], case: Case) -> Told
     requires { ⌜ length (now numbers) ≡ recordSize ⌝ }
     requires { ⌜ (case .«panel_lent» ≤ 65536) × (case .«store_lent» ≤ 65536) ⌝ }
@@ -59,12 +59,12 @@ fn on_parts(numbers: &[u32], case: Case, panel: &mut [u8], store: &mut [u8]) -> 
     )
 }
 
-// What all calls say, each on the record as it is and on fresh memories.
+// How the calls refuse a record, each on a copy of it and on fresh memories.
 fn by_all(numbers: &[u32], panel: &mut [u8], store: &mut [u8]) -> Told
     requires { ⌜ length (now numbers) ≡ recordSize ⌝ }
 {
-    fill(panel);
-    fill(store);
+    harness::fill(panel, 0, 1);
+    harness::fill(store, 0, 1);
     let was = crcs_of(panel, store);
     let first = by_one(numbers, 0, was, panel, store);
     let Told::Number(no) = first else {
@@ -73,7 +73,7 @@ fn by_all(numbers: &[u32], panel: &mut [u8], store: &mut [u8]) -> Told
     by_others(numbers, no, was, panel, store)
 }
 
-// What all calls say if the first says this number.
+// The same, if the first call is refused with this number.
 fn by_others(numbers: &[u32], no: u32, was: Crcs, panel: &mut [u8], store: &mut [u8]) -> Told
     requires { ⌜ length (now numbers) ≡ recordSize ⌝ }
 {
@@ -89,7 +89,7 @@ fn by_others(numbers: &[u32], no: u32, was: Crcs, panel: &mut [u8], store: &mut 
     Told::Number(no)
 }
 
-// What try k says, on a copy of the record. The memories, filled, have these CRCs.
+// How try k refuses a copy of the record. The filled memories have these CRCs.
 fn by_one(numbers: &[u32], k: u8, was: Crcs, panel: &mut [u8], store: &mut [u8]) -> Told
     requires { ⌜ length (now numbers) ≡ recordSize ⌝ }
 {
@@ -98,7 +98,7 @@ fn by_one(numbers: &[u32], k: u8, was: Crcs, panel: &mut [u8], store: &mut [u8])
     on_copy(numbers, &mut copy, k, was, panel, store)
 }
 
-// What try k says, on this copy of the record.
+// The same on this copy.
 fn on_copy(
     numbers: &[u32],
     copy: &mut [u32],
@@ -109,8 +109,8 @@ fn on_copy(
 ) -> Told
     requires { ⌜ length (now copy) ≡ length (now numbers) ⌝ }
 {
-    fill(panel);
-    fill(store);
+    harness::fill(panel, 0, 1);
+    harness::fill(store, 0, 1);
     let no = common_refusal(perform::perform(copy, call(k), &UNITS, panel, store));
     if no == 0 {
         return Told::Number(0);
@@ -139,7 +139,7 @@ fn same_crcs(a: Crcs, b: Crcs) -> bool {
     a.store == b.store
 }
 
-// The number with which all calls are to refuse the record, 0 if this one does not.
+// The number of a refusal that all calls share, 8 or 9; 0 for any other answer.
 fn common_refusal(a: Answer) -> u32 {
     match a {
         Answer::Refused(no) => shared(no),
@@ -152,13 +152,6 @@ fn shared(no: u32) -> u32 {
     match no {
         8 | 9 => no,
         _ => 0,
-    }
-}
-
-// Fills a memory with bytes that differ.
-fn fill(mem: &mut [u8]) {
-    for k in 0..mem.len() {
-        mem[k] = (k % 251) as u8;
     }
 }
 

@@ -6,12 +6,9 @@ mod session;
 mod state;
 
 ghost use Prim.Native.Nat.{_≤_};
-use libc::STDIN_FILENO;
+use harness::LONGEST;
 use script::Header;
 use script::HeaderRead;
-
-// A longer script is a bad one.
-const LONGEST: usize = 1_048_576;
 
 // The longest panel memory that is served.
 const MOST_PANEL: usize = 1_048_576;
@@ -19,11 +16,11 @@ const MOST_PANEL: usize = 1_048_576;
 // The longest store that is served.
 const MOST_STORE: usize = 4_194_304;
 
-// Reads the script, and one byte more if it is too long.
+// Reads the script, and performs it.
 fn main() {
     let picture = is_picture_asked();
     let mut script = [0u8; LONGEST + 1];
-    let n = io::read_full(STDIN_FILENO, &mut script);
+    let n = harness::read_input(&mut script);
     run(&script[..n], picture);
 }
 
@@ -42,7 +39,7 @@ fn is_picture_asked() -> bool {
     word[2] == b'm'
 }
 
-// The whole of a script.
+// Performs a whole script.
 fn run(s: &[u8], picture: bool) {
     if LONGEST < s.len() {
         lines::empty().text(b"bad script").print();
@@ -54,7 +51,7 @@ fn run(s: &[u8], picture: bool) {
     }
 }
 
-// A script with this header.
+// Performs a script with this header.
 fn serve(s: &[u8], h: Header, picture: bool) {
     if MOST_PANEL < (h.panel_len as usize) {
         lines::empty().text(b"too large").print();

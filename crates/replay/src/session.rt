@@ -15,7 +15,7 @@ const TEXT: u8 = 0x0F;
 // The bytes of a text in front of its units.
 const BEFORE_UNITS: usize = 17;
 
-// A session on the memories' first bytes, as many as the header asks for.
+// Runs a script on the first bytes of the memories, as many as the header asks for.
 pub fn on_parts(
     s: &[u8],
     h: Header,
@@ -39,24 +39,17 @@ pub fn on_parts(
     );
 }
 
-// A session on memories that are lent whole.
+// Runs a script on whole memories.
 fn run(s: &[u8], h: Header, picture: bool, device: &mut [u32], panel: &mut [u8], store: &mut [u8])
     requires { ⌜ length (now device) ≡ recordSize ⌝ }
 {
-    fill(panel, h.fill);
-    fill(store, h.fill);
+    harness::fill(panel, h.fill, 0);
+    harness::fill(store, h.fill, 0);
     let refusal = open::open(device, panel, store, h.width, h.height);
     if picture {
         write_picture(s, refusal, device, panel, store);
     } else {
         print_lines(s, refusal, device, panel, store);
-    }
-}
-
-// Fills a memory with a byte.
-fn fill(mem: &mut [u8], b: u8) {
-    for k in 0..mem.len() {
-        mem[k] = b;
     }
 }
 
@@ -68,7 +61,7 @@ fn print_open(refusal: u32) {
         .print();
 }
 
-// The line of open, those of the calls unless it was refused, and the state lines.
+// Prints the line of open, the lines of the calls unless open was refused, and the state lines.
 fn print_lines(s: &[u8], refusal: u32, device: &mut [u32], panel: &mut [u8], store: &mut [u8])
     requires { ⌜ length (now device) ≡ recordSize ⌝ }
 {
@@ -81,7 +74,7 @@ fn print_lines(s: &[u8], refusal: u32, device: &mut [u32], panel: &mut [u8], sto
     state::print(device, panel, store);
 }
 
-// The panel after the calls as a picture, or the line of open if it was refused.
+// Writes the panel after the calls as a picture, or prints the line of open if it was refused.
 fn write_picture(s: &[u8], refusal: u32, device: &mut [u32], panel: &mut [u8], store: &mut [u8])
     requires { ⌜ length (now device) ≡ recordSize ⌝ }
 {
@@ -93,7 +86,7 @@ fn write_picture(s: &[u8], refusal: u32, device: &mut [u32], panel: &mut [u8], s
     write_panel(panel, device[numbers::WIDTH], device[numbers::HEIGHT]);
 }
 
-// A panel of these sides as a picture, if it has the bytes for them.
+// Writes a panel of these sides as a picture, if it has the bytes for them.
 fn write_panel(panel: &[u8], width: u32, height: u32) {
     if picture::WIDEST < width {
         return;
@@ -104,7 +97,8 @@ fn write_panel(panel: &[u8], width: u32, height: u32) {
     picture::write(panel, width, height);
 }
 
-// Performs call after call, to the script's end or a bad one, and prints them and what looks ask for if they are shown.
+// Performs call after call, up to the end of the script or a bad call. If they are shown, prints each call, and the state
+// lines where a look asks for them.
 fn perform_all(s: &[u8], shown: bool, device: &mut [u32], panel: &mut [u8], store: &mut [u8])
     requires { ⌜ length (now device) ≡ recordSize ⌝ }
 {
@@ -130,7 +124,7 @@ fn perform_all(s: &[u8], shown: bool, device: &mut [u32], panel: &mut [u8], stor
     }
 }
 
-// Puts the units of a text, whose bytes end before `next`, at the front of `units`. How many there are; 0 for another call.
+// Puts the units of a text, whose bytes end before `next`, at the front of `units`. Returns their number, 0 for another call.
 fn take_units(s: &[u8], at: usize, next: usize, units: &mut [u16]) -> usize
     requires { ⌜ CallBytes (now s) at next ⌝ }
     requires { ⌜ 70000 ≤ length (now units) ⌝ }

@@ -46,7 +46,7 @@ module _ (m : List ℕ) (i v : ℕ) (small : v < 65536) where
       let a′ : (b + 0xFF00) / 256 ≡ 255 = omega arith in
       k ∙ rw (f, first, third, fourth, r′, g′, b′, a′) (put-four m (4 * i) (wideRed v) (wideGreen v) (wideBlue v) 255 h)
 
--- how many bytes there are
+-- the number of bytes
 pub length-rgba : (m : List ℕ) (n : ℕ) → length (rgbaOf m n) ≡ 4 * n
 length-rgba m n = length-joined (λ i. rgba (word m i)) 4 (λ _. refl) n
 
@@ -56,6 +56,6 @@ length-samples m n = length-joined (λ i. rgb (word m i)) 3 (λ _. refl) n
 pub length-ppm : (w h : ℕ) (m : List ℕ) → length (ppmOf w h m) ≡ ppmLength w h
 length-ppm w h m = omega (arith, length-append (header w h) (samplesOf m (w * h)), length-samples m (w * h))
 
--- the picture is what its reader gives back
+-- the reader gives the picture back
 pub ppm-read : (w h : ℕ) (m : List ℕ) → read (ppmOf w h m) ≡ picture w h 255 (samplesOf m (w * h))
 ppm-read w h m = read-back w h (samplesOf m (w * h)) (length-samples m (w * h))

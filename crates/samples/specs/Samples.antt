@@ -22,10 +22,10 @@ samplesOf m n = joined (λ i. rgb (word m i)) n
 abbrev pub rgbaOf : List ℕ → ℕ → List ℕ
 rgbaOf m n = joined (λ i. rgba (word m i)) n
 
--- the picture of the surface that begins a memory
+-- the picture of the surface at the start of a memory
 abbrev pub ppmOf : (width height : ℕ) → List ℕ → List ℕ
 ppmOf w h m = p6 w h (samplesOf m (w * h))
 
--- how long those bytes are
+-- the length of those bytes
 abbrev pub rgbaLength : (width height : ℕ) → ℕ
 rgbaLength w h = 4 * (w * h)

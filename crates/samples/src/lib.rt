@@ -7,7 +7,7 @@ ghost use Rattle.p6.specs.P6.{ppmLength};
 ghost use Rattle.p6.specs.Inner.{put};
 ghost use Rattle.samples.specs.Samples.{rgb, rgba, samplesOf, rgbaOf, ppmOf, rgbaLength};
 
-// How long the RGBA bytes of a surface are.
+// The length of the RGBA bytes of a surface.
 pub fn rgba_len(width: u32, height: u32) -> usize
     requires { ⌜ (width ≤ 4096) × (height ≤ 4096) ⌝ }
     ensures { λ r. ⌜ r ≡ rgbaLength width height ⌝ }
@@ -15,7 +15,7 @@ pub fn rgba_len(width: u32, height: u32) -> usize
     4 * ((width as usize) * (height as usize))
 }
 
-// The RGBA bytes of the surface that begins the pixels; the output is as long as they are.
+// Writes the RGBA bytes of the surface at the start of the pixels. The output has exactly their length.
 pub fn write_rgba(pixels: &[u8], width: u32, height: u32, out: &mut [u8])
     requires { ⌜ 2 * (width * height) ≤ length (now pixels) ⌝ }
     requires { ⌜ length (now out) ≡ rgbaLength width height ⌝ }
@@ -24,7 +24,7 @@ pub fn write_rgba(pixels: &[u8], width: u32, height: u32, out: &mut [u8])
     put_rgba_run(pixels, (width as usize) * (height as usize), out);
 }
 
-// The picture of the surface that begins the pixels; the output is as long as it is.
+// Writes the picture of the surface at the start of the pixels. The output has exactly its length.
 pub fn write_ppm(pixels: &[u8], width: u32, height: u32, out: &mut [u8])
     requires { ⌜ 2 * (width * height) ≤ length (now pixels) ⌝ }
     requires { ⌜ length (now out) ≡ ppmLength width height ⌝ }
@@ -34,7 +34,7 @@ pub fn write_ppm(pixels: &[u8], width: u32, height: u32, out: &mut [u8])
     put_rgb_run(pixels, (width as usize) * (height as usize), out, at);
 }
 
-// R, G, B and 255 of the first n words.
+// Writes R, G, B and 255 of the first n words.
 fn put_rgba_run(pixels: &[u8], n: usize, out: &mut [u8])
     requires { ⌜ (2 * n ≤ length (now pixels)) × (4 * n ≤ length (now out)) ⌝ }
     ensures { λ _. ⌜ now (out .exit) ≡ put (now (out .entry)) 0 (rgbaOf (now (pixels .entry)) n) ⌝ }
@@ -44,7 +44,7 @@ fn put_rgba_run(pixels: &[u8], n: usize, out: &mut [u8])
     }
 }
 
-// R, G and B of the first n words, from `at` on.
+// Writes R, G and B of the first n words, from `at` on.
 pub fn put_rgb_run(pixels: &[u8], n: usize, out: &mut [u8], at: usize)
     requires { ⌜ (2 * n ≤ length (now pixels)) × (at + 3 * n ≤ length (now out)) ⌝ }
     ensures { λ _. ⌜ now (out .exit) ≡ put (now (out .entry)) at (samplesOf (now (pixels .entry)) n) ⌝ }
@@ -54,8 +54,8 @@ pub fn put_rgb_run(pixels: &[u8], n: usize, out: &mut [u8], at: usize)
     }
 }
 
-// R, G, B and 255 of a word as pixel i. They are stored as two words of 16 bits: of single bytes the compiler makes code that
-// takes three times as long.
+// Writes R, G, B and 255 of a word as pixel i. It stores two words of 16 bits: with single bytes the compiled code takes three
+// times as long.
 fn put_rgba(out: &mut [u8], i: usize, v: u16)
     requires { ⌜ 4 * i + 3 < length (now out) ⌝ }
     ensures { λ _. ⌜ now (out .exit) ≡ put (now (out .entry)) (4 * i) (rgba v) ⌝ }
@@ -68,7 +68,7 @@ fn put_rgba(out: &mut [u8], i: usize, v: u16)
     words::set_word(out, 2 * i + 1, b + 0xFF00);
 }
 
-// R, G and B of a word, widened, from `at` on.
+// Writes R, G and B of a word, widened, from `at` on.
 pub fn put_rgb(out: &mut [u8], at: usize, v: u16)
     requires { ⌜ at + 2 < length (now out) ⌝ }
     ensures { λ _. ⌜ now (out .exit) ≡ put (now (out .entry)) at (rgb v) ⌝ }

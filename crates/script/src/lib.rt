@@ -35,7 +35,7 @@ pub enum HeaderRead {
 // The byte that asks for the state lines. It has no arguments.
 pub const LOOK: u8 = 0x7F;
 
-// What stands at a byte of a script: its end, neither a call nor a look, a look, or a call with the byte behind it.
+// What stands at a byte of a script: the end, neither a call nor a look, a look, or a call with the byte behind it.
 pub enum CallRead {
     End,
     Bad,
@@ -269,7 +269,7 @@ fn read_text(s: &[u8], p: usize) -> CallRead
     CallRead::Is(Call::Text { dc: dc, at: at }, p + bytes)
 }
 
-// The n units from p on, at the front of `units`; what stands behind them there is kept.
+// Reads the n units from p on into the front of `units`; the rest of `units` is kept.
 pub fn read_units(s: &[u8], p: usize, n: usize, units: &mut [u16])
     requires { ⌜ p + 2 * n ≤ length (now s) ⌝ }
     requires { ⌜ n ≤ length (now units) ⌝ }

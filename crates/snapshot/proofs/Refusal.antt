@@ -1,4 +1,4 @@
--- What a snapshot that is not refused may count on, and its number at the outcome of each test. Assumes nothing.
+-- What holds of a snapshot that is not refused, and its number after each test. Assumes nothing.
 use mathlib.Core.List.{List}
 use mathlib.Core.Path.{_≡_, sym, _∙_}
 use Prim.Native.Nat.{ℕ, _*_, _≤_}

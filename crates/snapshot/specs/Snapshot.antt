@@ -11,13 +11,13 @@ use Rattle.ready.specs.Ready.{panelRefusalOn}
 use Rattle.p6.specs.P6.{ppmLength}
 use Rattle.samples.specs.Samples.{rgbaOf, ppmOf, rgbaLength}
 
--- 9 no record, or an unsound one; then 8 the panel memory's length is not the record's; then 8 the output's length is not exact,
--- which is wanted by the panel's sides; 0 if accepted. A snapshot reads the panel alone: no store is lent
+-- 9 if the numbers are no record or an unsound one; then 8 if the panel memory's length is not the record's; then 8 if the
+-- output's length is not the one that is wanted for the panel's sides; 0 if accepted. A snapshot reads the panel alone: no store is lent
 unfoldable pub snapshotRefusal : (l : List ℕ) → (panel-len out-len : ℕ) → (wanted : (width height : ℕ) → ℕ) → ℕ
 snapshotRefusal l n got wanted =
     cond (eqb (panelRefusalOn l n) 0) (cond (eqb got (wanted (view l .width) (view l .height))) 0 8) (panelRefusalOn l n)
 
--- A format: how many bytes a picture of these sides has, and the picture of the panel that begins a memory.
+-- A format: how many bytes a picture of these sides has, and the picture of the panel at the start of a memory.
 pub record Format : Type 0 where
   pub wanted : (width height : ℕ) → ℕ
   pub picture : (width height : ℕ) → (panel : List ℕ) → List ℕ

@@ -5,7 +5,7 @@ use numbers::HEIGHT;
 use numbers::WIDTH;
 use ready::OTHER_LENGTH;
 
-// Writes R, G, B, 255 of each of the panel's pixels. The refusal's number, 0 if the snapshot was made.
+// Writes R, G, B, 255 of each of the panel's pixels. Returns the refusal's number, 0 if the snapshot was made.
 pub fn snapshot_rgba8888_into(numbers: &[u32], panel: &[u8], out: &mut [u8]) -> u32
     ensures { λ r. ⌜ Snapped rgba8888 (now (numbers .entry)) (now (panel .entry)) (now (out .entry)) r (now (out .exit)) ⌝ }
 {
@@ -22,7 +22,7 @@ pub fn snapshot_rgba8888_into(numbers: &[u32], panel: &[u8], out: &mut [u8]) -> 
     0
 }
 
-// Writes the panel as a P6 picture. The refusal's number, 0 if the snapshot was made.
+// Writes the panel as a P6 picture. Returns the refusal's number, 0 if the snapshot was made.
 pub fn snapshot_ppm(numbers: &[u32], panel: &[u8], out: &mut [u8]) -> u32
     ensures { λ r. ⌜ Snapped ppm (now (numbers .entry)) (now (panel .entry)) (now (out .entry)) r (now (out .exit)) ⌝ }
 {

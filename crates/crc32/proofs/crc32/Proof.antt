@@ -1,4 +1,4 @@
--- `crc32::crc32` meets its contract. The loop's invariant: the bytes that are left lead from `c` to where all the bytes lead.
+-- `crc32::crc32` meets its contract. The invariant: the bytes that are left, from the register `c` on, give the result of all bytes.
 -- Assumes nothing.
 use mathlib.Core.Path.{_≡_, refl}
 use mathlib.Core.List.{List}
@@ -13,7 +13,7 @@ use Rattle.crc32.proofs.crc32.Statement.{statement}
 use Rattle.crc32.proofs.crc32.Tie as tie
 
 module _ (s : List ℕ) (c i : ℕ) where
-  -- the next byte comes in
+  -- one byte more
   next : i < length s → byteSteps c (drop i s) ≡ byteSteps (byteStep c (getD s i 0)) (drop (i + 1) s)
   unfolding byteSteps
   next h = rw (add-one, drop-cons s i 0)

@@ -7,15 +7,6 @@ use Rattle.host_call.specs.Call.{callOf}
 use Rattle.host_call.proofs.call_of.Statement.{statement}
 use Rattle.host_call.proofs.call_of.Tie as tie
 
-area-of-requires : tie.Need-area-of-requires
-area-of-requires c κs = search needs
-
-at-of-requires : tie.Need-at-of-requires
-at-of-requires c κs = search needs
-
-from-of-requires : tie.Need-from-of-requires
-from-of-requires c κs = search needs
-
 returns : tie.Need-returns
 unfolding callOf
 returns c = rw (c .before .before .match .keys12, lt-leb (c .before .before .before .before .before .before .args .c .a) 1 (omega (arith, c .if1 .taken)))
@@ -23,9 +14,6 @@ returns c = rw (c .before .before .match .keys12, lt-leb (c .before .before .bef
 returns-2 : tie.Need-returns-2
 unfolding callOf
 returns-2 c = rw (c .before .before .match .keys16, lt-leb (c .before .before .before .before .before .before .args .c .a) 65535 (omega (arith, c .if2 .taken)))
-
-cast-t28 : tie.Need-cast-t28
-cast-t28 c = search needs
 
 returns-3 : tie.Need-returns-3
 unfolding callOf
@@ -101,34 +89,18 @@ returns-20 c = rw (c .match .keys18, c .before .before .before .area-of .ensures
 
 returns-21 : tie.Need-returns-21
 unfolding callOf
-returns-21 c = let k = c .before .before .before .before .args .c in rw (ne-eqb (k .call) 1 (c .match .rest .0 .0 .0 .0 .0 .0 .0 .0 .0 .0 .0 .0 .0 .0 .0 .0 .0 .1), ne-eqb (k .call) 2 (c .match .rest .0 .0 .0 .0 .0 .0 .0 .0 .0 .0 .0 .0 .0 .0 .0 .0 .1), ne-eqb (k .call) 3 (c .match .rest .0 .0 .0 .0 .0 .0 .0 .0 .0 .0 .0 .0 .0 .0 .0 .1), ne-eqb (k .call) 4 (c .match .rest .0 .0 .0 .0 .0 .0 .0 .0 .0 .0 .0 .0 .0 .0 .1), ne-eqb (k .call) 5 (c .match .rest .0 .0 .0 .0 .0 .0 .0 .0 .0 .0 .0 .0 .0 .1), ne-eqb (k .call) 6 (c .match .rest .0 .0 .0 .0 .0 .0 .0 .0 .0 .0 .0 .0 .1), ne-eqb (k .call) 7 (c .match .rest .0 .0 .0 .0 .0 .0 .0 .0 .0 .0 .0 .1), ne-eqb (k .call) 8 (c .match .rest .0 .0 .0 .0 .0 .0 .0 .0 .0 .0 .1), ne-eqb (k .call) 9 (c .match .rest .0 .0 .0 .0 .0 .0 .0 .0 .0 .1), ne-eqb (k .call) 10 (c .match .rest .0 .0 .0 .0 .0 .0 .0 .0 .1), ne-eqb (k .call) 11 (c .match .rest .0 .0 .0 .0 .0 .0 .0 .1), ne-eqb (k .call) 12 (c .match .rest .0 .0 .0 .0 .0 .0 .1), ne-eqb (k .call) 13 (c .match .rest .0 .0 .0 .0 .0 .1), ne-eqb (k .call) 14 (c .match .rest .0 .0 .0 .0 .1), ne-eqb (k .call) 15 (c .match .rest .0 .0 .0 .1), ne-eqb (k .call) 16 (c .match .rest .0 .0 .1), ne-eqb (k .call) 17 (c .match .rest .0 .1), ne-eqb (k .call) 18 (c .match .rest .1))
+returns-21 c =
+    let n = c .before .before .before .before .args .c .call in
+    let last = c .match .rest in
+    let middle = last .0 .0 .0 .0 .0 .0 in
+    let first = middle .0 .0 .0 .0 .0 .0 in
+    rw (ne-eqb n 1 (first .0 .0 .0 .0 .0 .1), ne-eqb n 2 (first .0 .0 .0 .0 .1), ne-eqb n 3 (first .0 .0 .0 .1), ne-eqb n 4 (first .0 .0 .1), ne-eqb n 5 (first .0 .1), ne-eqb n 6 (first .1))
+    (rw (ne-eqb n 7 (middle .0 .0 .0 .0 .0 .1), ne-eqb n 8 (middle .0 .0 .0 .0 .1), ne-eqb n 9 (middle .0 .0 .0 .1), ne-eqb n 10 (middle .0 .0 .1), ne-eqb n 11 (middle .0 .1), ne-eqb n 12 (middle .1))
+    (rw (ne-eqb n 13 (last .0 .0 .0 .0 .0 .1), ne-eqb n 14 (last .0 .0 .0 .0 .1), ne-eqb n 15 (last .0 .0 .0 .1), ne-eqb n 16 (last .0 .0 .1), ne-eqb n 17 (last .0 .1), ne-eqb n 18 (last .1))))
 
 pub call-of-spec : {M : Type 1} → statement M
 call-of-spec =
     tie.close
-    (tie.spec
-    area-of-requires
-    at-of-requires
-    from-of-requires
-    returns
-    returns-2
-    cast-t28
-    returns-3
-    returns-4
-    returns-5
-    returns-6
-    returns-7
-    returns-8
-    returns-9
-    returns-10
-    returns-11
-    returns-12
-    returns-13
-    returns-14
-    returns-15
-    returns-16
-    returns-17
-    returns-18
-    returns-19
-    returns-20
-    returns-21)
+    (tie.spec (λ c κs. search needs) (λ c κs. search needs) (λ c κs. search needs) returns returns-2 (λ c. search needs) returns-3 returns-4 returns-5
+    returns-6 returns-7 returns-8 returns-9 returns-10 returns-11 returns-12 returns-13 returns-14 returns-15 returns-16 returns-17 returns-18
+    returns-19 returns-20 returns-21)

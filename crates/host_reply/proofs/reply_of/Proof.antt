@@ -5,69 +5,6 @@ use Rattle.host_reply.proofs.Replies.{plain-replied, removed-replied}
 use Rattle.host_reply.proofs.reply_of.Statement.{statement}
 use Rattle.host_reply.proofs.reply_of.Tie as tie
 
-enum-known-answer : tie.Need-enum-known-answer
-enum-known-answer c = search needs
-
-plain-requires : tie.Need-plain-requires
-plain-requires c κs = search needs
-
-enum-known-answer-2 : tie.Need-enum-known-answer-2
-enum-known-answer-2 c = search needs
-
-plain-requires-2 : tie.Need-plain-requires-2
-plain-requires-2 c κs = search needs
-
-enum-known-answer-3 : tie.Need-enum-known-answer-3
-enum-known-answer-3 c = search needs
-
-plain-requires-3 : tie.Need-plain-requires-3
-plain-requires-3 c κs = search needs
-
-enum-known-answer-4 : tie.Need-enum-known-answer-4
-enum-known-answer-4 c = search needs
-
-slice-aggregate-put-object : tie.Need-slice-aggregate-put-object
-slice-aggregate-put-object c = search needs
-
-put-object-requires : tie.Need-put-object-requires
-put-object-requires c κs = search needs
-
-enum-told : tie.Need-enum-told
-enum-told c = search needs
-
-plain-requires-4 : tie.Need-plain-requires-4
-plain-requires-4 c κs = search needs
-
-enum-known-answer-5 : tie.Need-enum-known-answer-5
-enum-known-answer-5 c = search needs
-
-plain-requires-5 : tie.Need-plain-requires-5
-plain-requires-5 c κs = search needs
-
-enum-known-answer-6 : tie.Need-enum-known-answer-6
-enum-known-answer-6 c = search needs
-
-plain-requires-6 : tie.Need-plain-requires-6
-plain-requires-6 c κs = search needs
-
-enum-known-answer-7 : tie.Need-enum-known-answer-7
-enum-known-answer-7 c = search needs
-
-plain-requires-7 : tie.Need-plain-requires-7
-plain-requires-7 c κs = search needs
-
-enum-told-2 : tie.Need-enum-told-2
-enum-told-2 c = search needs
-
-plain-requires-8 : tie.Need-plain-requires-8
-plain-requires-8 c κs = search needs
-
-enum-known-answer-8 : tie.Need-enum-known-answer-8
-enum-known-answer-8 c = search needs
-
-plain-requires-9 : tie.Need-plain-requires-9
-plain-requires-9 c κs = search needs
-
 returns : tie.Need-returns
 returns c = rw (c .before .before .answer .given .1) (plain-replied _ refl (c .plain .ensures))
 
@@ -101,35 +38,8 @@ returns-10 c = rw (c .before .before .answer8 .given .1) (plain-replied _ refl (
 pub reply-of-spec : {M : Type 1} → statement M
 reply-of-spec =
     tie.close
-    (tie.spec
-    enum-known-answer
-    plain-requires
-    enum-known-answer-2
-    plain-requires-2
-    enum-known-answer-3
-    plain-requires-3
-    enum-known-answer-4
-    slice-aggregate-put-object
-    put-object-requires
-    enum-told
-    plain-requires-4
-    enum-known-answer-5
-    plain-requires-5
-    enum-known-answer-6
-    plain-requires-6
-    enum-known-answer-7
-    plain-requires-7
-    enum-told-2
-    plain-requires-8
-    enum-known-answer-8
-    plain-requires-9
-    returns
-    returns-2
-    returns-3
-    returns-4
-    returns-5
-    returns-6
-    returns-7
-    returns-8
-    returns-9
-    returns-10)
+    (tie.spec (λ c. search needs) (λ c κs. search needs) (λ c. search needs) (λ c κs. search needs) (λ c. search needs) (λ c κs. search needs)
+    (λ c. search needs) (λ c. search needs) (λ c κs. search needs) (λ c. search needs) (λ c κs. search needs) (λ c. search needs)
+    (λ c κs. search needs) (λ c. search needs) (λ c κs. search needs) (λ c. search needs) (λ c κs. search needs) (λ c. search needs)
+    (λ c κs. search needs) (λ c. search needs) (λ c κs. search needs) returns returns-2 returns-3 returns-4 returns-5 returns-6 returns-7 returns-8
+    returns-9 returns-10)

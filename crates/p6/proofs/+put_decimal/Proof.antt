@@ -82,13 +82,19 @@ put-decimal-slice-write-out-2 : (t : ℕ) → put-decimal-lts.Need-slice-write-o
   put-decimal-below t,
   put-decimal.Post,
 ) (put-decimal-at t) put-decimal.Post
-put-decimal-slice-write-out-2 t c = omega (arith, c .before .before .put-decimal .ensures .0, c .before .before .before .before .before .before .pre .1, length-more (c .before .before .before .before .before .before .args .n) (c .before .before .before .before .if1 .left))
+put-decimal-slice-write-out-2 t c =
+    let i = c .before .before .before .before in
+    let a = i .before .before in
+    omega (arith, c .before .before .put-decimal .ensures .0, a .pre .1, length-more (a .args .n) (i .if1 .left))
 
 put-decimal-add-result-2 : (t : ℕ) → put-decimal-lts.Need-add-result-2 (
   put-decimal-below t,
   put-decimal.Post,
 ) (put-decimal-at t) put-decimal.Post
-put-decimal-add-result-2 t c = omega (arith, c .before .before .put-decimal .ensures .0, c .before .before .before .before .before .before .pre .1, length-more (c .before .before .before .before .before .before .args .n) (c .before .before .before .before .if1 .left))
+put-decimal-add-result-2 t c =
+    let i = c .before .before .before .before in
+    let a = i .before .before in
+    omega (arith, c .before .before .put-decimal .ensures .0, a .pre .1, length-more (a .args .n) (i .if1 .left))
 
 put-decimal-same-length-2 : (t : ℕ) → put-decimal-lts.Need-same-length-2 (
   put-decimal-below t,
@@ -101,8 +107,10 @@ put-decimal-returns-2 : (t : ℕ) → put-decimal-lts.Need-returns-2 (
   put-decimal.Post,
 ) (put-decimal-at t) put-decimal.Post
 put-decimal-returns-2 t c =
-    let a = c .before .before .before .before .before .before in
-    (omega (arith, c .before .before .put-decimal .ensures .0, length-more (a .args .n) (c .before .before .before .before .if1 .left)), put-last (a .args .out .now) (a .args .at) (a .args .n) (c .before .before .before .before .if1 .left) (a .pre .1) (c .before .before .put-decimal .ensures .0) (c .before .before .put-decimal .ensures .1))
+    let front = c .before .before .put-decimal in
+    let i = c .before .before .before .before in
+    let a = i .before .before in
+    (omega (arith, front .ensures .0, length-more (a .args .n) (i .if1 .left)), put-last (a .args .out .now) (a .args .at) (a .args .n) (i .if1 .left) (a .pre .1) (front .ensures .0) (front .ensures .1))
 
 pub +put-decimal-spec : {M : Type 1} → statement M
 +put-decimal-spec = close μ-put-decimal λ t. put-decimal-lts.spec (

@@ -1,12 +1,21 @@
 -- `pixmap::write_pixels` meets its contract: the picture in its part of the output. Assumes nothing.
 use mathlib.Core.Path.{_∙_}
-use Prim.Native.Nat.{_-_}
+use Prim.Native.Nat.{_-_, _≤_}
 use native.Mathlib.Omega.{arith}
+use lib.ListN.{length}
 use lib.Seq.{length-take-le}
 use borrow.Author.Needs.{needs}
+use Rattle.p6.specs.P6.{ppmLength}
 use Rattle.pixmap.proofs.Picture.{picture-length, picture-put, pixels-long, held, room}
 use Rattle.pixmap.proofs.write_pixels.Statement.{statement}
 use Rattle.pixmap.proofs.write_pixels.Tie as tie
+
+-- the length of the longest picture is not exceeded
+longest : (l : tie.After-ppm-len) → ppmLength (l .before .before .read-u16 .result) (l .before .read-u162 .result) ≤ 62223
+longest l =
+    let a = l .before .before .before .before .before in
+    let h = held (a .args .input .now) (a .pre .0) in
+    room (l .before .before .read-u16 .result) (l .before .read-u162 .result) (omega (arith, h .wide, l .before .before .read-u16 .ensures)) (omega (arith, h .high, l .before .read-u162 .ensures))
 
 read-u16-requires : tie.Need-read-u16-requires
 read-u16-requires c κs = omega (arith, held (c .before .before .args .input .now) (c .before .before .pre .0))
@@ -42,14 +51,16 @@ part-write-ppm-start-2 c = search needs
 
 part-write-ppm-end-2 : tie.Need-part-write-ppm-end-2
 part-write-ppm-end-2 c =
-    let h = held (c .before .before .before .before .before .before .args .input .now) (c .before .before .before .before .before .before .pre .0) in
-    omega (arith, c .before .ppm-len .ensures, c .before .before .before .before .before .before .pre .1, room (c .before .before .before .read-u16 .result) (c .before .before .read-u162 .result) (omega (arith, h .wide, c .before .before .before .read-u16 .ensures)) (omega (arith, h .high, c .before .before .read-u162 .ensures)))
+    let l = c .before in
+    omega (arith, l .ppm-len .ensures, l .before .before .before .before .before .pre .1, longest l)
 
 write-ppm-requires : tie.Need-write-ppm-requires
 write-ppm-requires c κs =
-    let h = held (c .before .before .before .before .before .before .before .args .input .now) (c .before .before .before .before .before .before .before .pre .0) in
-    let b = room (c .before .before .before .before .read-u16 .result) (c .before .before .before .read-u162 .result) (omega (arith, h .wide, c .before .before .before .before .read-u16 .ensures)) (omega (arith, h .high, c .before .before .before .read-u162 .ensures)) in
-    (pixels-long (c .before .before .before .before .before .before .before .args .input .now) (c .before .before .before .before .read-u16 .ensures) (c .before .before .before .read-u162 .ensures) (h .long), length-take-le (c .before .before .ppm-len .result - 0) (c .before .before .before .before .before .before .before .args .out .now) (omega (arith, c .before .before .ppm-len .ensures, c .before .before .before .before .before .before .before .pre .1, b)) ∙ omega (arith, c .before .before .ppm-len .ensures))
+    let l = c .before .before in
+    let a = l .before .before .before .before .before in
+    let s = a .args .input .now in
+    let fits : l .ppm-len .result - 0 ≤ length (a .args .out .now) = omega (arith, l .ppm-len .ensures, a .pre .1, longest l) in
+    (pixels-long s (l .before .before .read-u16 .ensures) (l .before .read-u162 .ensures) (held s (a .pre .0) .long), length-take-le (l .ppm-len .result - 0) (a .args .out .now) fits ∙ omega (arith, l .ppm-len .ensures))
 
 same-length : tie.Need-same-length
 same-length c = search needs

@@ -21,32 +21,11 @@ abbrev μ-loop : tie.MeasureT-loop
 loop-holds : tie.Need-loop-holds Inv-loop μ-loop
 loop-holds c = let a = c .before .before .args in (put-first (λ j. rgb (word (a .pixels .now) j)) (a .out .now) (a .at), (refl, search needs))
 
-mul-put-rgb : tie.Need-mul-put-rgb Inv-loop μ-loop
-mul-put-rgb c = search needs
-
-add-put-rgb : tie.Need-add-put-rgb Inv-loop μ-loop
-add-put-rgb c = search needs
-
-word-at-requires : tie.Need-word-at-requires Inv-loop μ-loop
-word-at-requires c κs = search needs
-
-put-rgb-requires : tie.Need-put-rgb-requires Inv-loop μ-loop
-put-rgb-requires c κs = search needs
-
-add-i : tie.Need-add-i Inv-loop μ-loop
-add-i c = search needs
-
-loop-less : tie.Need-loop-less Inv-loop μ-loop
-loop-less c = search needs
-
 loop-again : tie.Need-loop-again Inv-loop μ-loop
 loop-again c =
     let a = c .before .before .before .before .before .before .before .before .before .args in
     let l = c .before .before .before .before .before .before .loop in
     (c .before .before .put-rgb .ensures ∙ put-next (λ j. rgb (word (a .pixels .now) j)) 3 (λ _. refl) (a .out .now) (a .at) (l .i) (omega arith) (l .inv .0) refl (ap rgb (c .before .before .before .word-at .ensures)), (search needs, search needs))
-
-same-length : tie.Need-same-length Inv-loop μ-loop
-same-length c = search needs
 
 returns : tie.Need-returns Inv-loop μ-loop
 returns c = let a = c .before .before .before .before .args in let l = c .before .loop in let e : l .i ≡ a .n = omega arith in (rw e at (l .inv .0))
@@ -54,16 +33,5 @@ returns c = let a = c .before .before .before .before .args in let l = c .before
 pub put-rgb-run-spec : {M : Type 1} → statement M
 put-rgb-run-spec =
     tie.close
-    (tie.spec
-    Inv-loop
-    μ-loop
-    loop-holds
-    mul-put-rgb
-    add-put-rgb
-    word-at-requires
-    put-rgb-requires
-    add-i
-    loop-less
-    loop-again
-    same-length
-    returns)
+    (tie.spec Inv-loop μ-loop loop-holds (λ c. search needs) (λ c. search needs) (λ c κs. search needs) (λ c κs. search needs) (λ c. search needs)
+    (λ c. search needs) loop-again (λ c. search needs) returns)

@@ -21,18 +21,6 @@ abbrev μ-loop : tie.MeasureT-loop
 loop-holds : tie.Need-loop-holds Inv-loop μ-loop
 loop-holds c = let a = c .before .before .args in (put-first (λ j. rgba (word (a .pixels .now) j)) (a .out .now) 0, (refl, search needs))
 
-word-at-requires : tie.Need-word-at-requires Inv-loop μ-loop
-word-at-requires c κs = search needs
-
-put-rgba-requires : tie.Need-put-rgba-requires Inv-loop μ-loop
-put-rgba-requires c κs = search needs
-
-add-i : tie.Need-add-i Inv-loop μ-loop
-add-i c = search needs
-
-loop-less : tie.Need-loop-less Inv-loop μ-loop
-loop-less c = search needs
-
 loop-again : tie.Need-loop-again Inv-loop μ-loop
 loop-again c =
     let a = c .before .before .before .before .before .before .before .before .before .args in
@@ -40,23 +28,11 @@ loop-again c =
     let q : 4 * l .i ≡ 0 + 4 * l .i = omega arith in
     (c .before .before .put-rgba .ensures ∙ put-next (λ j. rgba (word (a .pixels .now) j)) 4 (λ _. refl) (a .out .now) 0 (l .i) (omega arith) (l .inv .0) q (ap rgba (c .before .before .before .word-at .ensures)), (search needs, search needs))
 
-same-length : tie.Need-same-length Inv-loop μ-loop
-same-length c = search needs
-
 returns : tie.Need-returns Inv-loop μ-loop
 returns c = let a = c .before .before .before .before .args in let l = c .before .loop in let e : l .i ≡ a .n = omega arith in (rw e at (l .inv .0))
 
 pub put-rgba-run-spec : {M : Type 1} → statement M
 put-rgba-run-spec =
     tie.close
-    (tie.spec
-    Inv-loop
-    μ-loop
-    loop-holds
-    word-at-requires
-    put-rgba-requires
-    add-i
-    loop-less
-    loop-again
-    same-length
-    returns)
+    (tie.spec Inv-loop μ-loop loop-holds (λ c κs. search needs) (λ c κs. search needs) (λ c. search needs) (λ c. search needs) loop-again
+    (λ c. search needs) returns)

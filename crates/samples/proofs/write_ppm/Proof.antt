@@ -25,12 +25,16 @@ same-length c = search needs
 
 returns : tie.Need-returns
 returns c =
-    let a = c .before .before .before .before .before .before .before .before .before .before in
+    let head = c .before .before .before .before .before .before in
+    let a = head .before .before .before .before in
     let w = a .args .width in
     let h = a .args .height in
     let m = a .args .pixels .now in
+    let out = a .args .out .now in
     let xs = samplesOf m (w * h) in
-    (put-behind (a .args .out .now) (header w h) xs (c .before .before .before .before .before .before .put-header .result) (omega (arith, a .pre .1, length-samples m (w * h))) (c .before .before .before .before .before .before .put-header .ensures .1) (c .before .before .put-rgb-run .ensures) (c .before .before .before .before .before .before .put-header .ensures .0) ∙ put-all (a .args .out .now) (p6 w h xs) (omega (arith, a .pre .1, length-samples m (w * h), length-append (header w h) xs)))
+    let long = length-samples m (w * h) in
+    put-behind out (header w h) xs (head .put-header .result) (omega (arith, a .pre .1, long)) (head .put-header .ensures .1) (c .before .before .put-rgb-run .ensures) (head .put-header .ensures .0)
+    ∙ put-all out (p6 w h xs) (omega (arith, a .pre .1, long, length-append (header w h) xs))
 
 pub write-ppm-spec : {M : Type 1} → statement M
 write-ppm-spec =

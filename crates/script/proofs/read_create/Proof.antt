@@ -41,7 +41,9 @@ add-t15 c = search needs
 
 returns-4 : tie.Need-returns-4
 unfolding scriptCall
-returns-4 c = let a = c .before .before .before .before .before .before .before .args in rw (c .before .if4 .taken, stored32 (c .read-i32 .result) (record { sfits = c .read-i32 .ok }), c .read-i32 .ensures, le-leb (a .p + 4) (length (now (a .s))) (omega arith))
+returns-4 c =
+    let a = c .before .before .before .before .before .before .before .args in
+    rw (c .before .if4 .taken, stored32 (c .read-i32 .result) (record { sfits = c .read-i32 .ok }), c .read-i32 .ensures, le-leb (a .p + 4) (length (now (a .s))) (omega arith))
 
 returns-5 : tie.Need-returns-5
 returns-5 c = second-cut _ _ _ (c .before .before .before .before .before .if1 .left) (c .before .before .if3 .left) (c .before .if4 .left) (λ e. omega arith) (λ e. omega arith) (λ e. omega arith) (omega arith)
@@ -57,14 +59,19 @@ add-t17 c = search needs
 
 returns-6 : tie.Need-returns-6
 unfolding scriptCall
-returns-6 c = let a = c .before .before .before .before .before .before .before .before .before .args in rw (c .if6 .taken, c .before .before .before .before .before .read-u32 .ensures, c .before .read-u322 .ensures, le-leb (a .p + 8) (length (now (a .s))) (omega arith))
+returns-6 c =
+    let a = c .before .before .before .before .before .before .before .before .before .args in
+    rw (c .if6 .taken, c .before .before .before .before .before .read-u32 .ensures, c .before .read-u322 .ensures, le-leb (a .p + 8) (length (now (a .s))) (omega arith))
 
 add-t8 : tie.Need-add-t8
 add-t8 c = search needs
 
 returns-7 : tie.Need-returns-7
 unfolding scriptCall
-returns-7 c = let a = c .before .before .before .before .before .before .before .before .before .args in let four : a .k ≡ 4 = omega arith in rw (four, c .before .before .before .before .before .read-u32 .ensures, c .before .read-u322 .ensures, le-leb (a .p + 8) (length (now (a .s))) (omega arith))
+returns-7 c =
+    let a = c .before .before .before .before .before .before .before .before .before .args in
+    let four : a .k ≡ 4 = omega arith in
+    rw (four, c .before .before .before .before .before .read-u32 .ensures, c .before .read-u322 .ensures, le-leb (a .p + 8) (length (now (a .s))) (omega arith))
 
 pub read-create-spec : {M : Type 1} → statement M
 read-create-spec =

@@ -37,7 +37,10 @@ shared-slice-read-t9 c = search needs
 
 returns-3 : tie.Need-returns-3
 unfolding headerOf
-returns-3 c = let s = now (c .before .before .before .before .before .before .before .before .before .args .s) in rw (le-leb 21 (length s) (omega arith), eq-eqb (be32 s 0) 0x47444931 (omega arith), c .before .before .before .before .read-u322 .ensures, c .before .before .before .read-u323 .ensures, c .before .before .read-u324 .ensures, c .before .read-u325 .ensures)
+returns-3 c =
+    let sizes = c .before .before .before in
+    let s = now (sizes .before .before .before .before .before .before .args .s) in
+    rw (le-leb 21 (length s) (omega arith), eq-eqb (be32 s 0) 0x47444931 (omega arith), sizes .before .read-u322 .ensures, sizes .read-u323 .ensures, c .before .before .read-u324 .ensures, c .before .read-u325 .ensures)
 
 pub read-header-spec : {M : Type 1} → statement M
 read-header-spec =

@@ -12,26 +12,14 @@ use Rattle.script.proofs.Calls.{first-cut, second-cut}
 use Rattle.script.proofs.read_panel.Statement.{statement}
 use Rattle.script.proofs.read_panel.Tie as tie
 
-sub-left : tie.Need-sub-left
-sub-left c = search needs
-
 returns : tie.Need-returns
 returns c = first-cut _ _ _ (λ e. omega arith) (omega arith)
-
-read-u32-requires : tie.Need-read-u32-requires
-read-u32-requires c κs = search needs
 
 returns-2 : tie.Need-returns-2
 unfolding scriptCall
 returns-2 c =
     let a = c .before .before .before .before .before .args in
     rw (c .before .if2 .taken, lt-leb (be32 (now (a .s)) (a .p)) 65535 (omega arith))
-
-cast-t10 : tie.Need-cast-t10
-cast-t10 c = search needs
-
-add-t13 : tie.Need-add-t13
-add-t13 c = search needs
 
 returns-3 : tie.Need-returns-3
 unfolding scriptCall
@@ -44,15 +32,6 @@ returns-4 : tie.Need-returns-4
 returns-4 c =
     second-cut _ _ _ (λ e. omega arith) (λ e. omega arith) (λ e. omega arith) (λ e. omega arith) (λ e. omega arith) (c .before .if2 .left) (omega arith)
 
-add-read-u32 : tie.Need-add-read-u32
-add-read-u32 c = search needs
-
-read-u32-requires-2 : tie.Need-read-u32-requires-2
-read-u32-requires-2 c κs = search needs
-
-add-t7 : tie.Need-add-t7
-add-t7 c = search needs
-
 returns-5 : tie.Need-returns-5
 unfolding scriptCall
 returns-5 c =
@@ -63,16 +42,5 @@ returns-5 c =
 pub read-panel-spec : {M : Type 1} → statement M
 read-panel-spec =
     tie.close
-    (tie.spec
-    sub-left
-    returns
-    read-u32-requires
-    returns-2
-    cast-t10
-    add-t13
-    returns-3
-    returns-4
-    add-read-u32
-    read-u32-requires-2
-    add-t7
-    returns-5)
+    (tie.spec (λ c. search needs) returns (λ c κs. search needs) returns-2 (λ c. search needs) (λ c. search needs) returns-3 returns-4
+    (λ c. search needs) (λ c κs. search needs) (λ c. search needs) returns-5)

@@ -50,14 +50,21 @@ returns-4 c = let a = c .before .before .before .before .before .before .before 
 
 returns-5 : tie.Need-returns-5
 unfolding scriptCall
-returns-5 c = let a = c .before .before .before .before .before .before .before .before .args in let twelve : a .k ≡ 12 = omega arith in rw (twelve, lt-leb (be32 (now (a .s)) (a .p + 4)) 1 (omega arith))
+returns-5 c =
+    let a = c .before .before .before .before .before .before .before .before .args in
+    let twelve : a .k ≡ 12 = omega arith in
+    rw (twelve, lt-leb (be32 (now (a .s)) (a .p + 4)) 1 (omega arith))
 
 add-t7 : tie.Need-add-t7
 add-t7 c = search needs
 
 returns-6 : tie.Need-returns-6
 unfolding scriptCall
-returns-6 c = let a = c .before .before .before .before .before .before .before .before .args in let twelve : a .k ≡ 12 = omega arith in rw (twelve, c .before .before .before .before .before .read-u32 .ensures, c .before .before .before .before .read-u322 .ensures, le-leb (be32 (now (a .s)) (a .p + 4)) 1 (omega arith), le-leb (a .p + 8) (length (now (a .s))) (omega arith))
+returns-6 c =
+    let read = c .before .before .before .before in
+    let a = read .before .before .before .before .args in
+    let twelve : a .k ≡ 12 = omega arith in
+    rw (twelve, read .before .read-u32 .ensures, read .read-u322 .ensures, le-leb (be32 (now (a .s)) (a .p + 4)) 1 (omega arith), le-leb (a .p + 8) (length (now (a .s))) (omega arith))
 
 pub read-setting-spec : {M : Type 1} → statement M
 read-setting-spec =

@@ -15,10 +15,15 @@ slice-aggregate-text : tie.Need-slice-aggregate-text
 slice-aggregate-text c = search needs
 
 text-requires : tie.Need-text-requires
-text-requires c κs = omega (arith, at-most 10 20 1 (c .before .before .before .args .v) (c .before .decimal .result) (omega arith) (omega arith) (omega arith) (c .before .decimal .ensures .1 .0))
+text-requires c κs =
+    let d = c .before .decimal in
+    omega (arith, at-most 10 20 1 (c .before .before .before .args .v) (d .result) (omega arith) (omega arith) (omega arith) (d .ensures .1 .0))
 
 returns : tie.Need-returns
-returns c = let d = c .before .before in decimal-text _ _ (d .decimal .ensures .0 .1) (at-most 10 20 1 (c .before .before .before .before .args .v) (d .decimal .result) (omega arith) (omega arith) (omega arith) (d .decimal .ensures .1 .0)) (d .decimal .ensures .1 .0) (d .decimal .ensures .1 .1) (c .text .ensures)
+returns c =
+    let d = c .before .before .decimal in
+    let few = at-most 10 20 1 (c .before .before .before .before .args .v) (d .result) (omega arith) (omega arith) (omega arith) (d .ensures .1 .0) in
+    decimal-text _ _ (d .ensures .0 .1) few (d .ensures .1 .0) (d .ensures .1 .1) (c .text .ensures)
 
 pub decimal-spec : {M : Type 1} → statement M
 decimal-spec =

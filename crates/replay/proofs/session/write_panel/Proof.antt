@@ -1,4 +1,4 @@
--- `replay::session::write_panel` is safe and ends: it looks at the sides and the length first. Assumes nothing.
+-- `replay::session::write_panel` is safe and ends: it tests the sides and the length first. Assumes nothing.
 use Prim.Native.Nat.{_≤_}
 use native.Mathlib.Nat.{mul-le-mul}
 use native.Mathlib.Omega.{arith}
