@@ -56,7 +56,7 @@ module _ (b : GdiState) (dc : ℕ) (a : Area) (src : ℕ) (p : Point) (rop : ℕ
   unfolding blit
   as-fill f = rw (← e, not-true t f)
 
-  -- it does not: first the target is looked at
+  -- the code uses the source: the target is checked first
   module _ (f : not t ≡ false) {u : Target} (g : u ≡ targetOf b dc) where
     targeted : Targeted (blit b dc a src p rop) b dc (λ s d. onSource b (targetOf b src) (blitOn b a p (tableOf rop) s d))
     unfolding blit
@@ -68,7 +68,7 @@ module _ (b : GdiState) (dc : ℕ) (a : Area) (src : ℕ) (p : Point) (rop : ℕ
     pub refused-2 : u ≡ NoSurface → blit b dc a src p rop ≡ refuse 2 b
     refused-2 = no-surface targeted g
 
-    -- then the source
+    -- then the source is checked
     module _ {s : SurfaceId} {i : Site} {d : Dc} (h : u ≡ On s i d) {v : Target} (k : v ≡ targetOf b src) where
       sourced : Sourced (onSource b (targetOf b src) (blitOn b a p (tableOf rop) s d)) b src (blitOn b a p (tableOf rop) s d)
       sourced = record { plan = refl }

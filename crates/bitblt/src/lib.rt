@@ -1,4 +1,4 @@
-// Blit by DC handles, on a record lent as numbers.
+// Blit by DC handles, on a flat record.
 ghost use lib.ListN.{length};
 ghost use Rattle.numbers.specs.View.{view};
 ghost use Rattle.ready.proofs.Ready.{Lent};
@@ -12,13 +12,13 @@ use plan::Answer;
 use plan::Area;
 use plan::Point;
 
-// The refusal of a source DC that does not exist.
+// Refusal: the source handle names no DC.
 pub const NO_SOURCE_DC: u32 = 3;
 
-// The refusal of a source DC without a surface.
+// Refusal: the source DC has no surface.
 pub const NO_SOURCE_SURFACE: u32 = 4;
 
-// A code that ignores the source is a pattern fill; the source handle is not looked at then.
+// Blits from one DC to another. A code that does not use the source makes it a pattern fill, and the source handle is not checked.
 pub fn blit(
     numbers: &mut [u32],
     panel: &mut [u8],

@@ -1,4 +1,4 @@
-// Fills, outlines and text on a surface, wherever it lies: its part of one of the two memories is lent to the operation.
+// Fills, outlines and text on a surface in either memory: the surface's part of the memory is lent to the operation.
 ghost use mathlib.Core.Path.{_≡_};
 ghost use lib.ListN.{length};
 ghost use Rattle.surface.proofs.Accepted.{InOrder};
@@ -12,14 +12,14 @@ use place::Place;
 use plan::Area;
 use plan::Point;
 
-// What is drawn in a colour: an area under a raster code, an area's outline, or the first count units of a text.
+// What to draw in one colour: an area under a raster code, the outline of an area, or the first count units of a text.
 pub enum Drawing {
     Fill { area: Area, rop: u32 },
     Outline(Area),
     Text { at: Point, count: usize },
 }
 
-// Draws on a surface, wherever it lies. Whether a mark is due.
+// Draws on the surface at a place. Returns whether a dirty mark is due.
 pub fn draw_at(
     panel: &mut [u8],
     store: &mut [u8],
@@ -49,7 +49,7 @@ pub fn draw_at(
     }
 }
 
-// Draws on the bytes of a surface that is in order. Whether a mark is due.
+// Draws on a surface's bytes. The caller guarantees that sides and length agree. Returns whether a dirty mark is due.
 fn draw_on(
     pixels: &mut [u8],
     width: u32,

@@ -1,4 +1,4 @@
-// Runs of words copied: from another memory, or within one. A run is the n words from word d on; a caller owes that it lies
+// Copies runs of words from another memory, or within one. A run is the n words from word d on; the caller guarantees that it lies
 // within the memory.
 ghost use mathlib.Core.Path.{_≡_};
 ghost use Prim.Native.Nat.{_≤_, _*_, _+_, _-_};
@@ -6,7 +6,7 @@ ghost use lib.ListN.{length};
 ghost use Rattle.arithmetic.specs.Interval.{between};
 ghost use Rattle.words.specs.Words.{painted, word};
 
-// The words of src from s on, at the run of dst.
+// Copies the words of src from s on to the run of dst.
 pub fn copy_run(dst: &mut [u8], src: &[u8], d: usize, s: usize, n: usize)
     requires { ⌜ (2 * (d + n) ≤ length (now dst)) × (2 * (s + n) ≤ length (now src)) ⌝ }
     ensures { λ _. ⌜ now (dst .exit) ≡ painted (between d (d + n)) (λ i. word (now (src .entry)) (s + (i - d))) (now (dst .entry)) ⌝ }
@@ -18,7 +18,7 @@ pub fn copy_run(dst: &mut [u8], src: &[u8], d: usize, s: usize, n: usize)
     }
 }
 
-// copy_run for a row of at most 4,096 words, by way of a buffer: of the two loops the compiler makes one move.
+// copy_run for a row of at most 4,096 words, through a buffer: the compiler turns the two loops into block moves.
 fn copy_row(dst: &mut [u8], src: &[u8], d: usize, s: usize, n: usize)
     requires { ⌜ (n ≤ 4096) × ((2 * (d + n) ≤ length (now dst)) × (2 * (s + n) ≤ length (now src))) ⌝ }
     ensures { λ _. ⌜ now (dst .exit) ≡ painted (between d (d + n)) (λ i. word (now (src .entry)) (s + (i - d))) (now (dst .entry)) ⌝ }
@@ -38,8 +38,8 @@ fn copy_bytes(dst: &mut [u8], src: &[u8], d: usize, s: usize, n: usize)
     }
 }
 
-// The words from s on at the run, both in one memory. They are the words before the call, however the two overlap: the row
-// goes by way of a buffer, and has at most 4,096 words.
+// Copies the words from s on to the run, both in one memory, through a buffer: the two may overlap, and the words are those before
+// the call. A row has at most 4,096 words.
 pub fn move_run(mem: &mut [u8], d: usize, s: usize, n: usize)
     requires { ⌜ (n ≤ 4096) × ((2 * (d + n) ≤ length (now mem)) × (2 * (s + n) ≤ length (now mem))) ⌝ }
     ensures { λ _. ⌜ now (mem .exit) ≡ painted (between d (d + n)) (λ i. word (now (mem .entry)) (s + (i - d))) (now (mem .entry)) ⌝ }

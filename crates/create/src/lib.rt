@@ -1,4 +1,4 @@
-// The create calls, on a record lent as numbers.
+// The create calls, on a flat record.
 ghost use mathlib.Core.Path.{_≡_};
 ghost use mathlib.Core.Bool.{true};
 ghost use lib.ListN.{length};
@@ -22,13 +22,13 @@ use plan::Answer;
 use surface::BAD_SIDE;
 use surface::MAX_SIDE;
 
-// The refusal where no further object can be created.
+// Refusal: the object table is full.
 pub const TABLE_FULL: u32 = 5;
 
-// The refusal of a bitmap that does not fit the store.
+// Refusal: the bitmap does not fit the store.
 pub const STORE_FULL: u32 = 7;
 
-// The new object behind the others, its pixels black.
+// Appends an object to the table and zeroes its pixels. Returns its handle.
 fn make(numbers: &mut [u32], store: &mut [u8], object: GdiObject) -> Answer
     requires { ⌜ Lent (now numbers) (view (now numbers) .«panel_len») (length (now store)) ⌝ }
     requires { ⌜ objectFits object ≡ true ⌝ }

@@ -104,11 +104,13 @@ module _ (K : Kind) (S : Setting K) where
   abbrev pub Says : {M : Type 1} (𝓤 : URA M) → Clauses 𝓤 ended → Type 1
   Says 𝓤 c = (κs : Lfts 1) (a : Args signature κs) (g : c κs a .ghost) → ent 𝓤 (emp 𝓤) (c κs a .ensures g (S .old (a .0 .now)) (atExit ended κs a (S .new (a .0 .now) (a .1 .0), (K .last (a .1 .0), tt))))
 
--- what holds anyway is said beside P
+-- a fact that holds anyway is added to P
 pub and-so : {M : Type 1} (𝓤 : URA M) (H : Heap 𝓤) (A : Atoms 𝓤) → Given 𝓤 H A → (P : SProp 𝓤) {Q : SProp 𝓤} → ent 𝓤 (emp 𝓤) Q → ent 𝓤 P (sep 𝓤 P Q)
 and-so 𝓤 H A W P {Q} q = qed W (raw P ∷ []) ∵ use0 W (raw Q) q $ move ! (1 ∷ 0 ∷ []) $ done !
 
-module _ {M : Type 1} (𝓤 : URA M) (H : Heap 𝓤) (A : Atoms 𝓤) (W : Given 𝓤 H A) (K : Kind) (S : Setting K) (c : Clauses 𝓤 (ended K S)) (says : Says K S 𝓤 c) (κ : Lft) (q : Share) (b o : ℕ) (γ : GName) (h : Dc) (n : K .row .Denot) (g : c (κ, tt) (record { ptr = (b, o); name = γ; now = h }, (n, tt)) .ghost) where
+module _ {M : Type 1} (𝓤 : URA M) (H : Heap 𝓤) (A : Atoms 𝓤) (W : Given 𝓤 H A) (K : Kind) (S : Setting K)
+    (c : Clauses 𝓤 (ended K S)) (says : Says K S 𝓤 c) (κ : Lft) (q : Share) (b o : ℕ) (γ : GName) (h : Dc) (n : K .row .Denot)
+    (g : c (κ, tt) (record { ptr = (b, o); name = γ; now = h }, (n, tt)) .ghost) where
   abbrev Arg : Type 0
   Arg = RefT Dc × (K .row .Denot × Unit {0})
 

@@ -103,7 +103,8 @@ module _ {M : Type 1} (𝓤 : URA M) (H : Heap 𝓤) (A : Atoms 𝓤) (W : Given
   typed-dc : (d : Dc) → IsDc d → Holds (hasTy T′.mir (vstruct (parts d))) × WT (vstruct (parts d))
   typed-dc d is = LL.lawful T.the-type T′.the-laws 𝓤 H A W .typed d _ is .0
 
-module _ {M : Type 1} (𝓤 : URA M) (H : Heap 𝓤) (A : Atoms 𝓤) (W : Given 𝓤 H A) (K : Kind) (S : Setting K) (B : Answer K) (c : Clauses 𝓤 (ended K S B)) (says : Says K S B 𝓤 c) (h : Dc) (n : K .row .Denot) (g₀ : c tt (h, (n, tt)) .ghost) (is-h : IsDc h) (is-n : Is (K .row) n (K .val n ∷ [])) where
+module _ {M : Type 1} (𝓤 : URA M) (H : Heap 𝓤) (A : Atoms 𝓤) (W : Given 𝓤 H A) (K : Kind) (S : Setting K) (B : Answer K)
+    (c : Clauses 𝓤 (ended K S B)) (says : Says K S B 𝓤 c) (h : Dc) (n : K .row .Denot) (g₀ : c tt (h, (n, tt)) .ghost) (is-h : IsDc h) (is-n : Is (K .row) n (K .val n ∷ [])) where
   abbrev Arg : Type 0
   Arg = Dc × (K .row .Denot × Unit {0})
 

@@ -1,28 +1,28 @@
-// Settings of one DC record: lent, and by value.
+// Settings of one DC record, lent by `&mut` or by value.
 ghost use mathlib.Core.Path.{_≡_};
 ghost use Rattle.gdi.specs.Updates.{withTextColor, withTextAlign, withBkColor, withBkMode};
 use color::Colorref;
 use gdi::Dc;
 
-// A DC with another colour, and the one that it had.
+// A DC with a new colour, and its old colour.
 pub struct ColorChange {
     pub dc: Dc,
     pub old: Colorref,
 }
 
-// A DC with another alignment, and the one that it had.
+// A DC with a new alignment, and its old alignment.
 pub struct AlignChange {
     pub dc: Dc,
     pub old: u32,
 }
 
-// A DC with another background mode, and the one that it had.
+// A DC with a new background mode, and its old mode.
 pub struct ModeChange {
     pub dc: Dc,
     pub old: bool,
 }
 
-// Sets the text colour, and answers the old one.
+// Sets the text colour; returns the old one.
 pub fn set_text_color(dc: &mut Dc, color: Colorref) -> Colorref
     ensures { λ r. ⌜ (r ≡ now (dc .entry) .«text_color») × (now (dc .exit) ≡ withTextColor (now (dc .entry)) color) ⌝ }
 {
@@ -31,7 +31,7 @@ pub fn set_text_color(dc: &mut Dc, color: Colorref) -> Colorref
     old
 }
 
-// Sets the alignment of text, and answers the old one.
+// Sets the text alignment; returns the old one.
 pub fn set_text_align(dc: &mut Dc, align: u32) -> u32
     ensures { λ r. ⌜ (r ≡ now (dc .entry) .«text_align») × (now (dc .exit) ≡ withTextAlign (now (dc .entry)) align) ⌝ }
 {
@@ -40,7 +40,7 @@ pub fn set_text_align(dc: &mut Dc, align: u32) -> u32
     old
 }
 
-// Sets the background colour, and answers the old one.
+// Sets the background colour; returns the old one.
 pub fn set_bk_color(dc: &mut Dc, color: Colorref) -> Colorref
     ensures { λ r. ⌜ (r ≡ now (dc .entry) .«bk_color») × (now (dc .exit) ≡ withBkColor (now (dc .entry)) color) ⌝ }
 {
@@ -49,7 +49,7 @@ pub fn set_bk_color(dc: &mut Dc, color: Colorref) -> Colorref
     old
 }
 
-// Sets the background mode, and answers the old one.
+// Sets the background mode; returns the old one.
 pub fn set_bk_mode(dc: &mut Dc, transparent: bool) -> bool
     ensures { λ r. ⌜ (r ≡ now (dc .entry) .«bk_transparent») × (now (dc .exit) ≡ withBkMode (now (dc .entry)) transparent) ⌝ }
 {

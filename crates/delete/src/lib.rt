@@ -1,4 +1,4 @@
-// Delete and remove, on a record lent as numbers.
+// Delete and remove, on a flat record.
 ghost use mathlib.Core.Bool.{true};
 ghost use lib.ListN.{length};
 ghost use Rattle.numbers.specs.View.{view};
@@ -13,7 +13,7 @@ use numbers::SLOT;
 use numbers::SLOTS;
 use plan::Answer;
 
-// A created object goes. Stock objects stay, and count as deleted.
+// Deletes a created object. A stock object is kept and reported as deleted.
 pub fn delete(numbers: &mut [u32], store: &mut [u8], handle: u32) -> Answer
     requires { ⌜ Lent (now numbers) (view (now numbers) .«panel_len») (length (now store)) ⌝ }
     ensures { λ r. ⌜ OnStore (λ n. Followed (delete (view n) handle) n) numbers store (partsOf r) ⌝ }
@@ -30,7 +30,7 @@ pub fn delete(numbers: &mut [u32], store: &mut [u8], handle: u32) -> Answer
     }
 }
 
-// A created object goes, and its record is the answer.
+// Deletes a created object and returns its record.
 pub fn remove(numbers: &mut [u32], store: &mut [u8], handle: u32) -> Answer
     requires { ⌜ Lent (now numbers) (view (now numbers) .«panel_len») (length (now store)) ⌝ }
     ensures { λ r. ⌜ OnStore (λ n. Followed (remove (view n) handle) n) numbers store (partsOf r) ⌝ }

@@ -1,4 +1,4 @@
--- Numbers that took a mark are the record with that mark. Assumes nothing.
+-- A flat record into which a mark was written is the record with that mark. Assumes nothing.
 use mathlib.Core.Bool.{Bool, true, false}
 use mathlib.Core.List.{List}
 use mathlib.Core.Path.{_≡_, refl, sym, _∙_, ap, subst}
@@ -39,7 +39,7 @@ unfolding dirtiedIf
 undue-updated l s r e = rw e (updated-same r)
 
 module _ (l l′ : List ℕ) (r : isRecord l ≡ true) where
-  -- a number of the device, apart from the count
+  -- a number of the record's head, other than the count
   module _ {p n : ℕ} (kept : Kept l p n l′) (front : p + n ≤ countPlace) where
     pub screen : part l′ screenPlace dcSize ≡ part l screenPlace dcSize
     screen = part-kept kept screenPlace dcSize (λ j a b c d. omega arith)

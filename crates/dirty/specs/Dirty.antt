@@ -15,7 +15,7 @@ use Rattle.gdi.specs.Lookup.{slotAt, findOf}
 use Rattle.place.specs.declared.SurfaceId.{SurfaceId}
 use Rattle.place.specs.declared.SurfaceId.the-variants.{Panel, Bitmap}
 
--- a bitmap with its mark; any other object as it is
+-- a bitmap with its dirty mark; any other object unchanged
 abbrev pub objectDirtied : GdiObject → GdiObject
 objectDirtied (Dc d) = Dc d
 objectDirtied (BitmapOf m) = BitmapOf (withHostDirty m)
@@ -26,11 +26,11 @@ objectDirtied (Font x) = Font x
 abbrev pub slotDirtied : Slot → Slot
 slotDirtied s = record { handle = s .handle; object = objectDirtied (s .object) }
 
--- one frame more: the counter goes round to 0 after its last value
+-- the frame counter plus 1; it wraps around to 0
 abbrev pub nextFrame : GdiState → GdiState
 nextFrame b = withFrames b ((b .«frame_counter» + 1) % 18446744073709551616)
 
--- a created object with its mark
+-- the record with the dirty mark of a created object
 abbrev pub createdDirtied : GdiState → Found → GdiState
 createdDirtied b (At i) = withObjects b (b .«next_handle») (b .count) (set (b .objects) i (slotDirtied (slotAt b i)))
 createdDirtied b Nothing = b

@@ -1,15 +1,13 @@
-// Dirty marks: a drawing adds 1 to the panel's frame counter, or sets a bitmap's `host_dirty`.
+// Dirty marks: a mark adds 1 to the panel's frame counter, or sets a bitmap's `host_dirty`.
 ghost use mathlib.Core.Path.{_≡_};
 ghost use mathlib.Core.Bool.{true};
 ghost use Prim.Native.Nat.{_<_};
-ghost use lib.ListN.{set};
-ghost use Rattle.gdi.specs.Lookup.{slotAt};
-ghost use Rattle.gdi.specs.Updates.{withObjects};
+ghost use Rattle.gdi.specs.declared.Found.the-variants.{At};
 ghost use Rattle.numbers.specs.Layout.{countPlace};
 ghost use Rattle.numbers.specs.Block.{at};
 ghost use Rattle.numbers.specs.View.{view, isRecord, Updated};
 ghost use Rattle.place.specs.Place.{slotFor};
-ghost use Rattle.dirty.specs.Dirty.{slotDirtied, nextFrame, dirtied, dirtiedIf};
+ghost use Rattle.dirty.specs.Dirty.{nextFrame, createdDirtied, dirtied, dirtiedIf};
 use gdi::Found;
 use gdi::STOCK_DEFAULT_BITMAP;
 use numbers::BITMAP_DIRTY;
@@ -21,7 +19,7 @@ use numbers::SLOTS;
 use numbers::STOCK_DIRTY;
 use place::SurfaceId;
 
-// Marks a surface dirty, whose record stands in this slot.
+// Marks a surface dirty. A created bitmap has its record in this slot.
 pub fn mark_dirty(numbers: &mut [u32], id: SurfaceId, slot: Found)
     requires { ⌜ isRecord (now numbers) ≡ true ⌝ }
     requires { ⌜ slot ≡ slotFor (view (now numbers)) id ⌝ }
@@ -58,7 +56,7 @@ pub fn mark_dirty_if(numbers: &mut [u32], id: SurfaceId, slot: Found, due: bool)
     }
 }
 
-// One frame more.
+// Adds 1 to the frame counter.
 fn count_frame(numbers: &mut [u32])
     requires { ⌜ isRecord (now numbers) ≡ true ⌝ }
     ensures { λ _. ⌜ Updated (now (numbers .entry)) (nextFrame (view (now (numbers .entry)))) (now (numbers .exit)) ⌝ }
@@ -69,11 +67,11 @@ fn count_frame(numbers: &mut [u32])
     numbers[FRAMES_HIGH] = (next / 0x1_0000_0000) as u32;
 }
 
-// Marks the bitmap in slot i; any other object stays as it is.
+// Marks the bitmap in slot i; an object of another kind is kept.
 fn mark_slot(numbers: &mut [u32], i: usize)
     requires { ⌜ isRecord (now numbers) ≡ true ⌝ }
     requires { ⌜ i < at (now numbers) countPlace ⌝ }
-    ensures { λ _. ⌜ Updated (now (numbers .entry)) (withObjects (view (now (numbers .entry))) (view (now (numbers .entry)) .«next_handle») (view (now (numbers .entry)) .count) (set (view (now (numbers .entry)) .objects) i (slotDirtied (slotAt (view (now (numbers .entry))) i)))) (now (numbers .exit)) ⌝ }
+    ensures { λ _. ⌜ Updated (now (numbers .entry)) (createdDirtied (view (now (numbers .entry))) (At i)) (now (numbers .exit)) ⌝ }
 {
     let p = SLOTS + SLOT * i;
     if numbers[p + KIND] == 1 {

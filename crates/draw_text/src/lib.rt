@@ -1,4 +1,4 @@
-// Text by a DC's handle, on a record lent as numbers.
+// Text by DC handle, on a flat record.
 ghost use lib.ListN.{length};
 ghost use Rattle.numbers.specs.View.{view};
 ghost use Rattle.ready.proofs.Ready.{Lent};
@@ -12,7 +12,7 @@ use place::Target;
 use plan::Answer;
 use plan::Point;
 
-// The units before unit 0 or the end, in the text colour. The answer is their advance.
+// Draws the units before unit 0 or the end in the DC's text colour. Returns the advance in pixels.
 pub fn text_out(
     numbers: &mut [u32],
     panel: &mut [u8],

@@ -1,4 +1,4 @@
--- The numbers that DCs, objects and slots are put as are these DCs, objects and slots. Assumes nothing.
+-- DCs, objects and slots written as numbers are read back unchanged. Assumes nothing.
 use mathlib.Core.Bool.{true, _&&_, _||_}
 use mathlib.Core.List.{List, [], _∷_}
 use mathlib.Core.Path.{_≡_, refl, _∙_, ap}

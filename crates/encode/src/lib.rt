@@ -1,4 +1,4 @@
-// DCs, objects and slots put into blocks of a record's numbers.
+// Writes DCs, objects and slots into a record's numbers.
 ghost use mathlib.Core.Path.{_≡_};
 ghost use mathlib.Core.List.{[], _∷_};
 ghost use lib.ListN.{length};
@@ -43,7 +43,7 @@ fn bitmap_number(b: SelectedBitmap) -> u32
     }
 }
 
-// The two's complement of z.
+// Returns the two's complement of z.
 fn unsigned(z: i32) -> u32
     ensures { λ r. ⌜ signed32 r ≡ z ⌝ }
 {
@@ -53,7 +53,7 @@ fn unsigned(z: i32) -> u32
     z as u32
 }
 
-// Puts the numbers of an object.
+// Writes an object's numbers.
 fn put(
     numbers: &mut [u32],
     a: u32,
@@ -86,7 +86,7 @@ fn put(
     numbers[11] = m;
 }
 
-// Puts three numbers, and zeros behind them.
+// Writes three numbers, then zeros.
 fn put_few(numbers: &mut [u32], a: u32, b: u32, c: u32)
     requires { ⌜ length (now numbers) ≡ objectSize ⌝ }
     ensures { λ _. ⌜ now (numbers .exit) ≡ a ∷ b ∷ c ∷ 0 ∷ 0 ∷ 0 ∷ 0 ∷ 0 ∷ 0 ∷ 0 ∷ 0 ∷ 0 ∷ [] ⌝ }
@@ -94,7 +94,7 @@ fn put_few(numbers: &mut [u32], a: u32, b: u32, c: u32)
     put(numbers, a, b, c, 0, 0, 0, 0, 0, 0, 0, 0, 0);
 }
 
-// Puts a DC.
+// Writes a DC.
 pub fn put_dc(numbers: &mut [u32], d: Dc)
     requires { ⌜ length (now numbers) ≡ dcSize ⌝ }
     ensures { λ _. ⌜ DcCoded d (now (numbers .exit)) ⌝ }
@@ -118,7 +118,7 @@ pub fn put_dc(numbers: &mut [u32], d: Dc)
     );
 }
 
-// Puts an object. Its kind.
+// Writes an object. Returns its kind.
 pub fn put_object(numbers: &mut [u32], object: GdiObject) -> u32
     requires { ⌜ length (now numbers) ≡ objectSize ⌝ }
     ensures { λ r. ⌜ ObjectCoded object r (now (numbers .exit)) ⌝ }
@@ -148,7 +148,7 @@ pub fn put_object(numbers: &mut [u32], object: GdiObject) -> u32
     }
 }
 
-// Puts a slot.
+// Writes a slot.
 pub fn put_slot(numbers: &mut [u32], s: Slot)
     requires { ⌜ length (now numbers) ≡ slotSize ⌝ }
     ensures { λ _. ⌜ SlotCoded s (now (numbers .exit)) ⌝ }

@@ -1,4 +1,4 @@
-// New handles, and the objects that they name, on a record lent as numbers.
+// Allocates handles and appends objects, on a flat record.
 ghost use mathlib.Core.Path.{_≡_};
 ghost use mathlib.Core.Bool.{true};
 ghost use Prim.Native.Nat.{_<_};
@@ -14,10 +14,10 @@ use numbers::NEXT_HANDLE;
 use numbers::SLOT;
 use numbers::SLOTS;
 
-// As many handles as have to be tried: 0, twelve stock handles and 256 live ones are taken at most.
+// How many handles are tried. At most 0, twelve stock handles and 256 live ones are taken.
 pub const TRIES: u32 = 270;
 
-// Whether a handle is not 0, stock or live.
+// Returns whether a handle is free: not 0, stock or live.
 fn is_free(numbers: &[u32], handle: u32) -> bool
     requires { ⌜ isRecord (now numbers) ≡ true ⌝ }
     ensures { λ r. ⌜ r ≡ free (view (now (numbers .entry)) .objects) (view (now (numbers .entry)) .count) handle ⌝ }
@@ -34,7 +34,7 @@ fn is_free(numbers: &[u32], handle: u32) -> bool
     }
 }
 
-// The first free handle from the next handle on.
+// Returns the first free handle from the next handle on.
 pub fn alloc_handle(numbers: &[u32]) -> u32
     requires { ⌜ isRecord (now numbers) ≡ true ⌝ }
     ensures { λ r. ⌜ r ≡ newHandle (view (now (numbers .entry))) ⌝ }
@@ -51,7 +51,7 @@ pub fn alloc_handle(numbers: &[u32]) -> u32
     h
 }
 
-// Puts the object behind the others, under this handle. Only its slot, the next handle and the count are written.
+// Appends the object under this handle. Only its slot, the next handle and the count are written.
 pub fn append(numbers: &mut [u32], handle: u32, object: GdiObject)
     requires { ⌜ isRecord (now numbers) ≡ true ⌝ }
     requires { ⌜ at (now numbers) countPlace < 256 ⌝ }

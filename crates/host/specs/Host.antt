@@ -1,4 +1,4 @@
--- What a host's call does: the plan of the call that its numbers are.
+-- What a call made of numbers does: the plan of the call that they encode.
 use mathlib.Core.Bool.{cond, _&&_}
 use mathlib.Core.List.{List}
 use Prim.Native.Nat.{ℕ}
@@ -21,11 +21,11 @@ abbrev pub planRead : ParsedCall → (units l : List ℕ) → Memories → Plan
 planRead NoCall us l ms = refuse 255 (view l)
 planRead (Is c) us l ms = planOn c us l (length (ms .panel)) (length (ms .store))
 
--- numbers that are no call are refused with 255
+-- numbers that encode no call are refused with 255
 abbrev pub hostPlan : HostCall → (units l : List ℕ) → Memories → Plan
 hostPlan c us l ms = planRead (callOf c) us l ms
 
--- A host's call was made: the plan of the call that its numbers are was followed, and its answer replied.
+-- A host's call was performed: the plan of the call that its numbers encode was followed, and the reply encodes the answer.
 pub record HostPerformed (c : HostCall) (us l : List ℕ) (ms : Memories) (r : Reply) (l′ : List ℕ) (ms′ : Memories) : Type 0 where
   pub replied : Replied (hostPlan c us l ms .outcome .answer) r
   pub followed : Followed (hostPlan c us l ms) l ms (hostPlan c us l ms .outcome .answer) l′ ms′

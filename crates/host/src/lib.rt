@@ -1,6 +1,6 @@
-// The device under C names, for hosts in other languages: the record as numbers that the host keeps, a call as numbers, a text's
-// units as a slice, two lent memories. A slice is a pointer and a length there. None of these functions asks anything of its
-// caller.
+// The device under C names, for hosts in other languages. The host keeps the record as numbers and lends it with the two memories.
+// A call is a struct of numbers, a text's units are a slice. In C a slice is a pointer and a length. These functions have no
+// preconditions.
 ghost use mathlib.Core.Path.{_≡_};
 ghost use Rattle.plan.specs.Open.{Opened};
 ghost use Rattle.plan.specs.Followed.{OnBoth};
@@ -12,10 +12,10 @@ use host_reply::Reply;
 use plan::Answer;
 use surface::MAX_SIDE;
 
-// The refusal of numbers that are no call.
+// Refusal: the numbers are not a call.
 pub const NO_CALL: u32 = 255;
 
-// Opens a device: `open::open`. The number with which it is refused, 0 if it is not.
+// Opens a device (`open::open`). Returns the number of the refusal, 0 if the open is accepted.
 #[no_mangle]
 pub extern "C" fn ravinefork_open(
     numbers: &mut [u32],
@@ -29,7 +29,7 @@ pub extern "C" fn ravinefork_open(
     open::open(numbers, panel, store, width, height)
 }
 
-// Performs a call: `perform::perform`. Units are those of a text.
+// Performs a call (`perform::perform`). Only a text reads the units.
 #[no_mangle]
 pub extern "C" fn ravinefork_perform(
     numbers: &mut [u32],
@@ -49,7 +49,7 @@ pub extern "C" fn ravinefork_perform(
     }
 }
 
-// Writes the panel's pixels as R, G, B, 255. The refusal's number, 0 if the snapshot was made.
+// Writes the panel's pixels as R, G, B, 255. Returns the number of the refusal, 0 if the snapshot is written.
 #[no_mangle]
 pub extern "C" fn ravinefork_snapshot_rgba8888(numbers: &[u32], panel: &[u8], out: &mut [u8]) -> u32
     ensures { λ r. ⌜ Snapped rgba8888 (now (numbers .entry)) (now (panel .entry)) (now (out .entry)) r (now (out .exit)) ⌝ }
@@ -57,7 +57,7 @@ pub extern "C" fn ravinefork_snapshot_rgba8888(numbers: &[u32], panel: &[u8], ou
     snapshot::snapshot_rgba8888_into(numbers, panel, out)
 }
 
-// Writes the panel as a P6 picture. The refusal's number, 0 if the snapshot was made.
+// Writes the panel as a P6 picture. Returns the number of the refusal, 0 if the snapshot is written.
 #[no_mangle]
 pub extern "C" fn ravinefork_snapshot_ppm(numbers: &[u32], panel: &[u8], out: &mut [u8]) -> u32
     ensures { λ r. ⌜ Snapped ppm (now (numbers .entry)) (now (panel .entry)) (now (out .entry)) r (now (out .exit)) ⌝ }

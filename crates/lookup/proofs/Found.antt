@@ -1,4 +1,4 @@
--- What is found among the slots that numbers are. Assumes nothing.
+-- What a scan of the slots of a flat record finds. Assumes nothing.
 use mathlib.Core.Bool.{true}
 use mathlib.Core.List.{List}
 use mathlib.Core.Path.{_≡_, refl, sym, _∙_, ap}

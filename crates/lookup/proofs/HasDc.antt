@@ -1,4 +1,4 @@
--- Where a DC that was found stands. Assumes nothing.
+-- Where a DC that was found is stored. Assumes nothing.
 use mathlib.Core.Path.{_≡_, sym, _∙_}
 use Prim.Native.Nat.{ℕ}
 use Rattle.gdi.specs.declared.Dc.{Dc}
@@ -9,6 +9,6 @@ use Rattle.gdi.specs.declared.Spot.{Spot}
 use Rattle.gdi.specs.Lookup.{dcOf}
 use Rattle.lookup.specs.Inner.{HasDc}
 
--- the DC that was found stands at its spot
+-- the DC that was found is stored at its spot
 pub has-dc : {b : GdiState} {h : ℕ} {q : DcFound} {p : Spot} {d : Dc} → q ≡ dcOf b h → q ≡ Is p d → HasDc b h p
 has-dc {d = d} e f = record { dc = d; found = sym e ∙ f }

@@ -1,4 +1,4 @@
--- A DC that was put into its numbers is the record's. Assumes nothing.
+-- A flat record into which a DC was written is the record with that DC. Assumes nothing.
 use mathlib.Core.Bool.{true}
 use mathlib.Core.List.{List, _++_}
 use mathlib.Core.Path.{_≡_, sym, _∙_, ap}

@@ -1,4 +1,4 @@
-// What a handle names in a record lent as numbers, and a DC stored under its handle.
+// Looks handles up in a flat record, and stores a DC under its handle.
 ghost use mathlib.Core.Path.{_≡_};
 ghost use mathlib.Core.Bool.{true};
 ghost use Prim.Native.Nat.{_+_, _≤_};
@@ -23,7 +23,7 @@ use numbers::OBJECT;
 use numbers::SLOT;
 use numbers::SLOTS;
 
-// The slot of the created object of this handle.
+// Returns the slot of the created object with this handle.
 pub fn find(numbers: &[u32], handle: u32) -> Found
     requires { ⌜ isRecord (now numbers) ≡ true ⌝ }
     ensures { λ r. ⌜ r ≡ findOf (view (now (numbers .entry))) handle ⌝ }
@@ -39,7 +39,7 @@ pub fn find(numbers: &[u32], handle: u32) -> Found
     Found::Nothing
 }
 
-// The DC of this handle.
+// Returns the DC with this handle, and where it is stored.
 pub fn find_dc(numbers: &[u32], handle: u32) -> DcFound
     requires { ⌜ isRecord (now numbers) ≡ true ⌝ }
     ensures { λ r. ⌜ r ≡ dcOf (view (now (numbers .entry))) handle ⌝ }
@@ -63,7 +63,7 @@ pub fn find_dc(numbers: &[u32], handle: u32) -> DcFound
     }
 }
 
-// The kind of the object whose slot stands from number p on, with the colour that a selection copies.
+// Returns the kind of the object in the slot at number p, with the colour that a selection copies.
 fn kind_at(numbers: &[u32], p: usize) -> Kind
     requires { ⌜ p + slotSize ≤ length (now numbers) ⌝ }
     ensures { λ r. ⌜ r ≡ kindAt (objectOf (at (now (numbers .entry)) (p + kindPlace)) (part (now (numbers .entry)) (p + objectPlace) objectSize)) ⌝ }
@@ -77,7 +77,7 @@ fn kind_at(numbers: &[u32], p: usize) -> Kind
     }
 }
 
-// What a handle names, created or stock.
+// Returns the kind of the object with this handle, created or stock.
 pub fn find_kind(numbers: &[u32], handle: u32) -> Kind
     requires { ⌜ isRecord (now numbers) ≡ true ⌝ }
     ensures { λ r. ⌜ r ≡ kindOf (view (now (numbers .entry))) handle ⌝ }
@@ -88,7 +88,7 @@ pub fn find_kind(numbers: &[u32], handle: u32) -> Kind
     }
 }
 
-// Puts d as the DC of this handle, which stands at spot. Only its numbers are written.
+// Stores d as the DC with this handle, at spot. No other numbers are written.
 pub fn update_dc(numbers: &mut [u32], handle: u32, spot: Spot, d: Dc)
     requires { ⌜ isRecord (now numbers) ≡ true ⌝ }
     requires { ⌜ HasDc (view (now numbers)) handle spot ⌝ }

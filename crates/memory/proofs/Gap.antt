@@ -125,6 +125,6 @@ module _ {ℓ} {A : Type ℓ} (z : A) (l : List A) (p n : ℕ) where
   pub filled-all : paste l p (replicate n z) n ≡ take p l ++ (replicate n z ++ drop (p + n) l)
   filled-all = rw (take-all n (replicate n z) (omega (arith, length-replicate n z))) (append-assoc (take p l) (replicate n z) (drop (p + n) l))
 
--- two of six go, of which five are used
+-- two elements of six removed, of which five are used
 example : closedUp {A = ℕ} 0 (1 ∷ 2 ∷ 3 ∷ 4 ∷ 5 ∷ 6 ∷ []) 1 2 5 ≡ 1 ∷ 4 ∷ 5 ∷ 0 ∷ 0 ∷ 6 ∷ []
 example = refl

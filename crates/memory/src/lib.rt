@@ -1,11 +1,11 @@
-// Bytes of a memory that go: to 0, or out of it with those behind them moved down.
+// Bytes of a memory zeroed, or removed and the gap closed.
 ghost use mathlib.Core.Path.{_≡_};
 ghost use Prim.Native.Nat.{_+_, _-_, _≤_};
 ghost use lib.ListN.{length, drop};
 ghost use lib.Seq.{paste};
 ghost use Rattle.memory.specs.Gap.{closedUp, blanked};
 
-// The n bytes from p on become 0.
+// Zeroes the n bytes from p on.
 pub fn zero(mem: &mut [u8], p: usize, n: usize)
     requires { ⌜ p + n ≤ length (now mem) ⌝ }
     ensures { λ _. ⌜ now (mem .exit) ≡ blanked (now (mem .entry)) p n ⌝ }
@@ -17,7 +17,7 @@ pub fn zero(mem: &mut [u8], p: usize, n: usize)
     }
 }
 
-// The bytes from p + n up to end + n move down to p.
+// Moves the bytes from p + n to end + n down to p.
 pub fn move_down(mem: &mut [u8], p: usize, n: usize, end: usize)
     requires { ⌜ (p ≤ end) × (end + n ≤ length (now mem)) ⌝ }
     ensures { λ _. ⌜ now (mem .exit) ≡ paste (now (mem .entry)) p (drop (p + n) (now (mem .entry))) (end - p) ⌝ }
@@ -29,7 +29,7 @@ pub fn move_down(mem: &mut [u8], p: usize, n: usize, end: usize)
     }
 }
 
-// The n bytes from p on go: those behind them, up to used, move down, and the freed tail becomes 0.
+// Removes the n bytes from p on: the bytes after them, up to used, move down, and the freed tail is zeroed.
 pub fn close_up(mem: &mut [u8], p: usize, n: usize, used: usize)
     requires { ⌜ (p + n ≤ used) × (used ≤ length (now mem)) ⌝ }
     ensures { λ _. ⌜ now (mem .exit) ≡ closedUp 0 (now (mem .entry)) p n used ⌝ }

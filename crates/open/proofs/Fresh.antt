@@ -1,4 +1,4 @@
--- A fresh record that was put into numbers is the record that they are. Assumes nothing.
+-- A fresh record written into numbers is the record that they are. Assumes nothing.
 use mathlib.Core.Bool.{Bool, true, cond}
 use mathlib.Core.List.{List, [], _∷_}
 use mathlib.Core.Path.{_≡_, refl, sym, _∙_, ap}

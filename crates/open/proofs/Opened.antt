@@ -103,7 +103,7 @@ module _ {w h n k : ℕ} (a : Accepted w h n k) where
         store = rw (sum-none (λ i. bytesOf (objectAt (fresh n k w h) i))) (a .store);
       })
 
--- an accepted open gives a device that looks at calls
+-- an accepted open gives a ready device
 pub opened-ready : (w h n k : ℕ) → openRefusal w h n k ≡ 0 → commonRefusal (fresh n k w h) n k ≡ 0
 opened-ready w h n k e = ready-accepts (record { sound = opened-sound (accepted w h n k _ refl e); panel = refl; store = refl })
 

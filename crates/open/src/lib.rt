@@ -1,4 +1,4 @@
-// Open: a fresh device on two lent memories, its record in lent numbers.
+// Open: writes a fresh flat record and clears the panel and the stock pixel.
 ghost use mathlib.Core.List.{[], _∷_};
 ghost use mathlib.Core.Path.{_≡_};
 ghost use lib.ListN.{length};
@@ -23,13 +23,13 @@ use numbers::WIDTH;
 use ready::UNSOUND_RECORD;
 use surface::BAD_SIDE;
 
-// The refusal of a memory above the limit.
+// Refusal: a memory is longer than the limit.
 pub const TOO_LONG: u32 = 8;
 
-// The refusal of a memory that is too short.
+// Refusal: a memory is too short.
 pub const TOO_SHORT: u32 = 7;
 
-// The number with which an open is refused, 0 if it is not.
+// Returns the number of the refusal, 0 if the open is accepted.
 fn refusal(width: u32, height: u32, panel_len: usize, store_len: usize) -> u32
     ensures { λ r. ⌜ r ≡ openRefusal width height «panel_len» «store_len» ⌝ }
 {
@@ -53,8 +53,8 @@ fn refusal(width: u32, height: u32, panel_len: usize, store_len: usize) -> u32
     BAD_SIDE
 }
 
-// Opens a device with a panel of these sides. Accepted, the panel and the stock pixel are black, and no other byte changes. The
-// number with which it is refused, 0 if it is not; numbers that no record fits are refused with 9.
+// Opens a device with a panel of these sides. Returns the number of the refusal, 0 if the open is accepted: then the panel and the
+// stock pixel are black, and no other byte of the memories changes. Numbers of another length than a record's are refused with 9.
 pub fn open(numbers: &mut [u32], panel: &mut [u8], store: &mut [u8], width: u32, height: u32) -> u32
     ensures { λ r. ⌜ OnBoth (Opened width height) numbers panel store r ⌝ }
 {
@@ -79,7 +79,7 @@ pub fn open(numbers: &mut [u32], panel: &mut [u8], store: &mut [u8], width: u32,
     0
 }
 
-// Puts a record without created objects. The numbers past its screen DC are kept.
+// Writes a record without created objects. The numbers after its screen DC are kept.
 fn put_fresh(numbers: &mut [u32], panel_len: u32, store_len: u32, width: u32, height: u32)
     requires { ⌜ length (now numbers) ≡ recordSize ⌝ }
     ensures { λ _. ⌜ Updated (now (numbers .entry)) (fresh «panel_len» «store_len» width height) (now (numbers .exit)) ⌝ }
@@ -89,7 +89,7 @@ fn put_fresh(numbers: &mut [u32], panel_len: u32, store_len: u32, width: u32, he
     encode::put_dc(&mut numbers[SCREEN..SLOTS], d);
 }
 
-// Puts the numbers in front of the screen DC.
+// Writes the numbers before the screen DC.
 fn put_head(numbers: &mut [u32], panel_len: u32, store_len: u32, width: u32, height: u32)
     requires { ⌜ length (now numbers) ≡ headSize ⌝ }
     ensures { λ _. ⌜ now (numbers .exit) ≡ «panel_len» ∷ «store_len» ∷ width ∷ height ∷ 0 ∷ 0 ∷ 0xDEAD_1000 ∷ 0 ∷ 0 ∷ [] ⌝ }

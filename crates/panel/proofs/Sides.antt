@@ -1,4 +1,4 @@
--- The panel's sides in the numbers, and a mark behind them. Assumes nothing.
+-- The panel's sides written into the numbers, and then a mark. Assumes nothing.
 use mathlib.Core.Bool.{Bool, true, _&&_, _||_}
 use mathlib.Core.List.{List}
 use mathlib.Core.Path.{_≡_, refl, _∙_, subst}

@@ -1,4 +1,4 @@
-// Panel fill and resize, on a record lent as numbers.
+// Panel fill and resize, on a flat record.
 ghost use mathlib.Core.Path.{_≡_};
 ghost use mathlib.Core.Bool.{true, _&&_, _||_};
 ghost use lib.Dec.{eqb};
@@ -19,10 +19,10 @@ use plan::Answer;
 use surface::BAD_SIDE;
 use surface::MAX_SIDE;
 
-// The refusal of a size that does not fit the panel memory.
+// Refusal: the size does not fit the panel memory.
 pub const PANEL_TOO_SHORT: u32 = 7;
 
-// The whole panel in one colour.
+// Fills the whole panel with one colour.
 pub fn fill(numbers: &mut [u32], panel: &mut [u8], color: Rgb565) -> Answer
     requires { ⌜ Lent (now numbers) (length (now panel)) (view (now numbers) .«store_len») ⌝ }
     ensures { λ r. ⌜ OnPanel (λ n. Followed (panelFill (view n) (color .0)) n) numbers panel (partsOf r) ⌝ }
@@ -33,7 +33,7 @@ pub fn fill(numbers: &mut [u32], panel: &mut [u8], color: Rgb565) -> Answer
     Answer::Drawn
 }
 
-// The panel at another size, black. A side of 0 or the present size does nothing.
+// Resizes the panel and clears it. A side of 0, or the present size, does nothing.
 pub fn resize(numbers: &mut [u32], panel: &mut [u8], width: u32, height: u32) -> Answer
     requires { ⌜ Lent (now numbers) (length (now panel)) (view (now numbers) .«store_len») ⌝ }
     ensures { λ r. ⌜ OnPanel (λ n. Followed (resize (view n) width height) n) numbers panel (partsOf r) ⌝ }
@@ -57,7 +57,7 @@ pub fn resize(numbers: &mut [u32], panel: &mut [u8], width: u32, height: u32) ->
     Answer::Drawn
 }
 
-// Puts the panel's sides.
+// Writes the panel's sides.
 fn set_sides(numbers: &mut [u32], width: u32, height: u32)
     requires { ⌜ isRecord (now numbers) ≡ true ⌝ }
     ensures { λ _. ⌜ Updated (now (numbers .entry)) (withSides (view (now (numbers .entry))) width height) (now (numbers .exit)) ⌝ }
@@ -66,7 +66,7 @@ fn set_sides(numbers: &mut [u32], width: u32, height: u32)
     numbers[HEIGHT] = height;
 }
 
-// Whether a resize from these sides does nothing.
+// Returns whether a resize from the present sides does nothing.
 fn no_effect(width: u32, height: u32, present_w: u32, present_h: u32) -> bool
     ensures { λ r. ⌜ r ≡ ((eqb width 0 || eqb height 0) || (eqb width «present_w» && eqb height «present_h»)) ⌝ }
 {

@@ -34,7 +34,7 @@ module _ (c : Call) (us l : List ℕ) (ms : Memories) {no : ℕ} (e : no ≡ com
     pub is-lent : Lent l (length (ms .panel)) (length (ms .store))
     is-lent = lent l (length (ms .panel)) (length (ms .store)) no e z
 
-    -- the call v, which was looked at
+    -- the call v, on a ready record
     module _ {v : Call} (is : c ≡ v) where
       looked : planOn c us l (length (ms .panel)) (length (ms .store)) ≡ act v us (view l)
       unfolding planOn plan

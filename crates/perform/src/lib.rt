@@ -1,10 +1,10 @@
-// One entry for every call, on a record lent as numbers.
+// One entry point for every call, on a flat record.
 ghost use Rattle.plan.specs.Answer.{partsOf};
 ghost use Rattle.plan.specs.Followed.{Performed, OnBoth};
 use plan::Answer;
 use plan::Call;
 
-// Performs a call. Numbers that are no record are refused with 9. Refused, a call changes no number and no byte.
+// Performs a call. Numbers that are not a record are refused with 9. A refused call changes no number and no byte.
 pub fn perform(
     numbers: &mut [u32],
     call: Call,

@@ -5,6 +5,7 @@ use Prim.Native.Nat.{ℕ, _+_, _-_, _*_, _≤_}
 use native.Mathlib.Omega.{arith}
 use lib.ListN.{length}
 use borrow.Author.Tests.{ne-eqb}
+use denote.Ref.{RefT, ptr, now}
 use Rattle.words.specs.Parts.{part}
 use Rattle.gdi.specs.declared.Dc.{Dc}
 use Rattle.gdi.specs.Record.{size}
@@ -62,38 +63,33 @@ module _ {l : List ℕ} {n k dc : ℕ} {at : Place} (f : Found l n k dc at) {m :
   pub store-fits : m ≡ Store → p + size w h ≤ k
   store-fits g = subst (λ (v : Memory). p + size w h ≤ lengthOf n k v) g (inside .fits)
 
--- the pixels of a DC whose place was found
-module _ (l panel store : List ℕ) (dc : ℕ) {at : Place} (f : Found l (length panel) (length store) dc at) where
-  pixels-at : (u : Place) → at ≡ u → pixelsAt (memories panel store) u ≡ pixelsOf l (memories panel store) dc
-  pixels-at u e = ap (pixelsAt (memories panel store)) (sym e ∙ f .same)
+-- these bytes are the DC's pixels, and this is where they lie, by the two memories as they are lent
+abbrev Lies : (panel store : RefT (List ℕ)) (l : List ℕ) (dc : ℕ) → List ℕ → ℕ × ℕ → Type 0
+Lies panel store l dc bytes pointer =
+    (bytes ≡ pixelsOf l (memories (now panel) (now store)) dc)
+    × (pointer ≡ pointerAt (ptr panel) (ptr store) (placeOf l (length (now panel)) (length (now store)) dc))
 
-  pub no-pixels : at ≡ Nowhere → [] ≡ pixelsOf l (memories panel store) dc
-  no-pixels e = pixels-at Nowhere e
+-- the cases of a place that was found
+module _ (panel store : RefT (List ℕ)) {l : List ℕ} {dc : ℕ} {at : Place} (f : Found l (length (now panel)) (length (now store)) dc at) where
+  lies-at : (u : Place) → at ≡ u → Lies panel store l dc (pixelsAt (memories (now panel) (now store)) u) (pointerAt (ptr panel) (ptr store) u)
+  lies-at u e = (ap (pixelsAt (memories (now panel) (now store))) (sym e ∙ f .same), ap (pointerAt (ptr panel) (ptr store)) (sym e ∙ f .same))
+
+  pub no-pixels : at ≡ Nowhere → Lies panel store l dc [] (ptr panel .0, 0 + ptr panel .1)
+  no-pixels e =
+      let z : 0 + ptr panel .1 ≡ ptr panel .1 = omega arith in
+      let i = lies-at Nowhere e in
+      (i .0, ap {B = ℕ × ℕ} (λ x. (ptr panel .0, x)) z ∙ i .1)
 
   module _ {m : Memory} {p w h : ℕ} (e : at ≡ At m p w h) where
     -- a part from p to its end has the place's size
-    part-of : (v : Memory) → m ≡ v → part (memoryOf (memories panel store) v) p (p + size w h - p) ≡ pixelsOf l (memories panel store) dc
-    part-of v g =
+    lies-in : (v : Memory) → m ≡ v → Lies panel store l dc (part (memoryOf (memories (now panel) (now store)) v) p (p + size w h - p)) (pointerAt (ptr panel) (ptr store) (At v p w h))
+    lies-in v g =
         let z : p + size w h - p ≡ size w h = omega arith in
-        ap (part (memoryOf (memories panel store) v) p) z ∙ pixels-at (At v p w h) (e ∙ ap (λ (x : Memory). At x p w h) g)
+        let i = lies-at (At v p w h) (e ∙ ap (λ (x : Memory). At x p w h) g) in
+        (ap (part (memoryOf (memories (now panel) (now store)) v) p) z ∙ i .0, i .1)
 
-    pub panel-part : m ≡ Panel → part panel p (p + size w h - p) ≡ pixelsOf l (memories panel store) dc
-    panel-part g = part-of Panel g
+    pub panel-part : m ≡ Panel → Lies panel store l dc (part (now panel) p (p + size w h - p)) (ptr panel .0, p + ptr panel .1)
+    panel-part g = lies-in Panel g
 
-    pub store-part : m ≡ Store → part store p (p + size w h - p) ≡ pixelsOf l (memories panel store) dc
-    store-part g = part-of Store g
-
--- where they lie
-module _ (a b : ℕ × ℕ) {l : List ℕ} {n k dc : ℕ} {at : Place} (f : Found l n k dc at) where
-  pointer-at : (u : Place) → at ≡ u → pointerAt a b u ≡ pointerAt a b (placeOf l n k dc)
-  pointer-at u e = ap (pointerAt a b) (sym e ∙ f .same)
-
-  pub no-pointer : at ≡ Nowhere → _≡_ {A = ℕ × ℕ} (a .0, 0 + a .1) (pointerAt a b (placeOf l n k dc))
-  no-pointer e = let z : 0 + a .1 ≡ a .1 = omega arith in ap {B = ℕ × ℕ} (λ x. (a .0, x)) z ∙ pointer-at Nowhere e
-
-  module _ {m : Memory} {p w h : ℕ} (e : at ≡ At m p w h) where
-    pub panel-pointer : m ≡ Panel → _≡_ {A = ℕ × ℕ} (a .0, p + a .1) (pointerAt a b (placeOf l n k dc))
-    panel-pointer g = pointer-at (At Panel p w h) (e ∙ ap (λ (x : Memory). At x p w h) g)
-
-    pub store-pointer : m ≡ Store → _≡_ {A = ℕ × ℕ} (b .0, p + b .1) (pointerAt a b (placeOf l n k dc))
-    store-pointer g = pointer-at (At Store p w h) (e ∙ ap (λ (x : Memory). At x p w h) g)
+    pub store-part : m ≡ Store → Lies panel store l dc (part (now store) p (p + size w h - p)) (ptr store .0, p + ptr store .1)
+    store-part g = lies-in Store g

@@ -28,14 +28,14 @@ placeOf l n k dc = cond (eqb (commonRefusalOn l n k) 0) (placeOn (targetOf (view
 abbrev pub pixelsOf : (l : List ℕ) → Memories → ℕ → List ℕ
 pixelsOf l ms dc = pixelsAt ms (placeOf l (length (ms .panel)) (length (ms .store)) dc)
 
--- where the first byte at a place lies in the machine, by a block and an offset, of which those of the two memories are given;
--- nowhere stands at the start of the panel memory, with no byte
+-- the machine address of the first byte at a place, as a block and an offset, given those of the two memories; an empty slice
+-- points to the start of the panel memory
 abbrev pub pointerAt : (panel store : ℕ × ℕ) → Place → ℕ × ℕ
 pointerAt a b Nowhere = a
 pointerAt a b (At Panel p w h) = (a .0, p + a .1)
 pointerAt a b (At Store p w h) = (b .0, p + b .1)
 
--- a DC's place was found, inside its memory
+-- r is the DC's place, and lies inside its memory
 pub record Found (l : List ℕ) (panel-len store-len dc : ℕ) (r : Place) : Type 0 where
   pub same : r ≡ placeOf l panel-len store-len dc
   pub within : Within panel-len store-len r

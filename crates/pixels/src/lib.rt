@@ -1,4 +1,4 @@
-// The exported way to a DC's pixels: the part of the panel memory or of the store that is its surface.
+// Lends a DC's pixels: the part of the panel memory or of the store that is its surface.
 ghost use mathlib.Core.Path.{_≡_};
 ghost use lib.ListN.{length};
 ghost use denote.Ref.{ptr};
@@ -8,7 +8,7 @@ use place::Memory;
 use place::Place;
 use place::Target;
 
-// Where the pixels of a DC lie; nowhere if a drawing on it would be refused.
+// Returns where the pixels of a DC lie; nowhere if a drawing on it would be refused.
 pub fn place_of(numbers: &[u32], panel_len: usize, store_len: usize, dc: u32) -> Place
     ensures { λ r. ⌜ Found (now (numbers .entry)) «panel_len» «store_len» dc r ⌝ }
 {
@@ -22,7 +22,7 @@ pub fn place_of(numbers: &[u32], panel_len: usize, store_len: usize, dc: u32) ->
     }
 }
 
-// A DC's pixels, to be changed; no byte if a drawing on it would be refused with 9, 8, 1 or 2.
+// Lends a DC's pixels for writing; an empty slice if a drawing on it would be refused with 9, 8, 1 or 2.
 pub fn pixels_mut<'a>(
     numbers: &[u32],
     panel: &'a mut [u8],
@@ -45,7 +45,7 @@ pub fn pixels_mut<'a>(
     }
 }
 
-// The same to be read.
+// The same for reading.
 pub fn pixels<'a>(numbers: &[u32], panel: &'a [u8], store: &'a [u8], dc: u32) -> &'a [u8]
     ensures { λ r. ⌜ now r ≡ pixelsOf (now (numbers .entry)) (memories (now (panel .entry)) (now (store .entry))) dc ⌝ }
     ensures place { λ r. ⌜ ptr r ≡ pointerAt (ptr (panel .entry)) (ptr (store .entry)) (placeOf (now (numbers .entry)) (length (now (panel .entry))) (length (now (store .entry))) dc) ⌝ }

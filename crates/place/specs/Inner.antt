@@ -8,12 +8,12 @@ use Rattle.place.specs.declared.Site.{Site}
 use Rattle.place.specs.declared.SurfaceId.{SurfaceId}
 use Rattle.place.specs.Place.{live, locate, siteOf, Within}
 
--- a created bitmap was located, inside its memory
+-- r is the site of the created bitmap, inside its memory
 pub record Located (b : GdiState) (h : ℕ) (r : Site) : Type 0 where
   pub same : r ≡ record { at = locate (live b) 2 h; slot = findOf b h }
   pub within : Within (b .«panel_len») (b .«store_len») (r .at)
 
--- a surface's site was found, inside its memory
+-- r is the site of the surface, inside its memory
 pub record SiteFound (b : GdiState) (s : SurfaceId) (r : Site) : Type 0 where
   pub same : r ≡ siteOf b s
   pub within : Within (b .«panel_len») (b .«store_len») (r .at)

@@ -29,7 +29,7 @@ use Rattle.place.specs.declared.SurfaceId.the-variants.{Panel, Bitmap}
 use Rattle.place.specs.declared.Target.{Target}
 use Rattle.place.specs.declared.Target.the-variants.{NoDc, NoSurface, On}
 
--- two names of one surface
+-- two names name the same surface
 abbrev pub same : SurfaceId → SurfaceId → Bool
 same Panel Panel = true
 same Panel (Bitmap h) = false
@@ -72,7 +72,7 @@ slotFor b (Bitmap h) = cond (eqb h stockBitmap) Nothing (findOf b h)
 abbrev pub siteOf : GdiState → SurfaceId → Site
 siteOf b s = record { at = whereIs b s; slot = slotFor b s }
 
--- a place inside its memory, which has len bytes, with sides in their limits
+-- the place lies inside its memory of len bytes, and its sides are within their limits
 pub record Inside (len p w h : ℕ) : Type 0 where
   pub fits : p + size w h ≤ len
   pub some : 0 < w
@@ -80,7 +80,7 @@ pub record Inside (len p w h : ℕ) : Type 0 where
   pub some-rows : 0 < h
   pub high : h ≤ 4096
 
--- a memory's length, by the panel memory's and the store's
+-- the length of a memory
 abbrev pub lengthOf : (panel-len store-len : ℕ) → Memory → ℕ
 lengthOf n k PanelMemory = n
 lengthOf n k Store = k
@@ -89,7 +89,7 @@ abbrev pub Within : (panel-len store-len : ℕ) → Place → Type 0
 Within n k Nowhere = Unit
 Within n k (At m p w h) = Inside (lengthOf n k m) p w h
 
--- a target, unless its surface is nowhere
+-- the target, or no surface if the place is nowhere
 abbrev pub unlessNowhere : Place → Target → Target
 unlessNowhere Nowhere t = NoSurface
 unlessNowhere (At m p w h) t = t

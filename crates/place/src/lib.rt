@@ -1,4 +1,4 @@
-// Where a surface lies in the two memories, and which surface a DC paints, read from the numbers of a device record.
+// Finds where a surface lies in the two memories, and which surface a DC paints, in a flat record.
 ghost use mathlib.Core.Path.{_≡_};
 ghost use mathlib.Core.Bool.{true};
 ghost use Prim.Native.Nat.{_+_, _≤_};
@@ -32,13 +32,13 @@ pub enum Memory {
     Store,
 }
 
-// No such surface; or the memory, the byte from which its pixels lie, width and height.
+// Where a surface lies: the memory, the byte at which its pixels begin, width and height; or nowhere.
 pub enum Place {
     Nowhere,
     At(Memory, usize, u32, u32),
 }
 
-// A surface is named by the panel or a bitmap's handle, stock or created.
+// The name of a surface: the panel, or the handle of a bitmap, stock or created.
 pub enum SurfaceId {
     Panel,
     Bitmap(u32),
@@ -57,7 +57,7 @@ pub enum Target {
     On(SurfaceId, Site, Dc),
 }
 
-// The place of the object whose slot stands from number p on, if its pixels start at byte start of the store.
+// Returns the place of the object in the slot at number p, whose pixels begin at byte start of the store.
 fn frame(numbers: &[u32], p: usize, start: usize) -> Place
     requires { ⌜ p + slotSize ≤ length (now numbers) ⌝ }
     ensures { λ r. ⌜ r ≡ placeFrom (objectOf (at (now (numbers .entry)) (p + kindPlace)) (part (now (numbers .entry)) (p + objectPlace) objectSize)) start ⌝ }
@@ -73,7 +73,7 @@ fn frame(numbers: &[u32], p: usize, start: usize) -> Place
     )
 }
 
-// Where the created bitmap of this handle lies.
+// Returns where the created bitmap with this handle lies.
 fn locate(numbers: &[u32], handle: u32) -> Site
     requires { ⌜ isRecord (now numbers) ≡ true ⌝ }
     requires { ⌜ isSound (view (now numbers)) ≡ true ⌝ }
@@ -97,7 +97,7 @@ fn locate(numbers: &[u32], handle: u32) -> Site
     untabled(Place::Nowhere)
 }
 
-// The site of a surface that no slot holds.
+// Returns the site of a surface without a slot.
 fn untabled(at: Place) -> Site
     ensures { λ r. ⌜ r ≡ record { at = at; slot = Nothing } ⌝ }
 {
@@ -107,7 +107,7 @@ fn untabled(at: Place) -> Site
     }
 }
 
-// Where a surface lies.
+// Returns where a surface lies.
 pub fn where_is(numbers: &[u32], id: SurfaceId) -> Site
     requires { ⌜ isRecord (now numbers) ≡ true ⌝ }
     requires { ⌜ isSound (view (now numbers)) ≡ true ⌝ }
@@ -124,7 +124,7 @@ pub fn where_is(numbers: &[u32], id: SurfaceId) -> Site
     }
 }
 
-// The surface that a DC paints.
+// Returns the surface that a DC paints.
 pub fn target_of(numbers: &[u32], dc: u32) -> Target
     requires { ⌜ isRecord (now numbers) ≡ true ⌝ }
     requires { ⌜ isSound (view (now numbers)) ≡ true ⌝ }

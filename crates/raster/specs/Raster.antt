@@ -1,4 +1,4 @@
--- What a raster operation leaves at a word of a memory.
+-- A word of a memory after a raster operation.
 use mathlib.Core.List.{List}
 use Prim.Native.Nat.{ℕ}
 use Rattle.words.specs.Words.{word}

@@ -1,5 +1,5 @@
-// Runs of words under a raster code, given by its table byte, without a source. PATCOPY and DSTINVERT have plain loops, which
-// leave the same.
+// Combines a run of words with a pattern under a raster table, without a source. PATCOPY and DSTINVERT have loops of their own with
+// the same result.
 ghost use mathlib.Core.Path.{_≡_};
 ghost use Prim.Native.Nat.{_≤_, _*_, _+_};
 ghost use lib.ListN.{length};
@@ -11,7 +11,7 @@ const PATCOPY_TABLE: u8 = 0xF0;
 
 const DSTINVERT_TABLE: u8 = 0x55;
 
-// Pattern and destination under a table, at the n words from d on. The source operand is 0.
+// Combines pattern and destination under a table at the n words from d on. The source operand is 0.
 pub fn rop_run(mem: &mut [u8], d: usize, n: usize, table: u8, pat: u16)
     requires { ⌜ 2 * (d + n) ≤ length (now mem) ⌝ }
     ensures { λ _. ⌜ now (mem .exit) ≡ painted (between d (d + n)) (ropped table pat (λ _. 0) (now (mem .entry))) (now (mem .entry)) ⌝ }

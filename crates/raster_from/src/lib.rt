@@ -1,5 +1,5 @@
-// Runs of words under a raster code, given by its table byte, with a source in another memory or in the same memory. SRCCOPY has
-// plain loops, which leave the same.
+// Combines a run of words with a pattern and a source run under a raster table. The source is in another memory or in the same one.
+// SRCCOPY has loops of its own with the same result.
 ghost use mathlib.Core.Path.{_≡_};
 ghost use Prim.Native.Nat.{_≤_, _*_, _+_, _-_};
 ghost use lib.ListN.{length};
@@ -9,7 +9,7 @@ ghost use Rattle.raster.specs.Raster.{ropped};
 
 const SRCCOPY_TABLE: u8 = 0xCC;
 
-// Pattern, the words of src from s on, and destination under a table, at the n words of dst from d on.
+// Combines pattern, the words of src from s on, and destination under a table at the n words of dst from d on.
 pub fn rop_run_from(dst: &mut [u8], src: &[u8], d: usize, s: usize, n: usize, table: u8, pat: u16)
     requires { ⌜ (2 * (d + n) ≤ length (now dst)) × (2 * (s + n) ≤ length (now src)) ⌝ }
     ensures { λ _. ⌜ now (dst .exit) ≡ painted (between d (d + n)) (ropped table pat (λ i. word (now (src .entry)) (s + (i - d))) (now (dst .entry))) (now (dst .entry)) ⌝ }
@@ -21,8 +21,8 @@ pub fn rop_run_from(dst: &mut [u8], src: &[u8], d: usize, s: usize, n: usize, ta
     }
 }
 
-// The same with both in one memory. The source words are those before the call, however the two overlap. A row has at most
-// 4,096 words.
+// The same with both in one memory: the two may overlap, and the source words are those before the call. A row has at most 4,096
+// words.
 pub fn rop_run_within(mem: &mut [u8], d: usize, s: usize, n: usize, table: u8, pat: u16)
     requires { ⌜ (n ≤ 4096) × ((2 * (d + n) ≤ length (now mem)) × (2 * (s + n) ≤ length (now mem))) ⌝ }
     ensures { λ _. ⌜ now (mem .exit) ≡ painted (between d (d + n)) (ropped table pat (λ i. word (now (mem .entry)) (s + (i - d))) (now (mem .entry))) (now (mem .entry)) ⌝ }
@@ -46,7 +46,7 @@ fn combine_run_from(dst: &mut [u8], src: &[u8], d: usize, s: usize, n: usize, ta
     }
 }
 
-// rop_run_within for any table: the source row goes by way of a buffer.
+// The loop of rop_run_within for any table: the source row is copied to a buffer first.
 fn combine_run_within(mem: &mut [u8], d: usize, s: usize, n: usize, table: u8, pat: u16)
     requires { ⌜ (n ≤ 4096) × ((2 * (d + n) ≤ length (now mem)) × (2 * (s + n) ≤ length (now mem))) ⌝ }
     ensures { λ _. ⌜ now (mem .exit) ≡ painted (between d (d + n)) (ropped table pat (λ i. word (now (mem .entry)) (s + (i - d))) (now (mem .entry))) (now (mem .entry)) ⌝ }

@@ -7,11 +7,11 @@ use Rattle.gdi.specs.declared.GdiState.{GdiState}
 use Rattle.numbers.specs.View.{view, isRecord}
 use Rattle.sound.specs.Sound.{isSound}
 
--- 9 record unsound; then 8 a lent memory's length is not the record's; 0 if calls are looked at
+-- 9 record unsound; then 8 a lent memory's length is not the record's; 0 if the record is ready
 unfoldable pub commonRefusal : GdiState → (panel-len store-len : ℕ) → ℕ
 commonRefusal b n k = cond (isSound b) (cond (eqb n (b .«panel_len») && eqb k (b .«store_len»)) 0 8) 9
 
--- the same of a record lent as numbers: numbers that are no record are 9
+-- the same of a flat record: 9 if the numbers are not a record
 abbrev pub commonRefusalOn : (l : List ℕ) → (panel-len store-len : ℕ) → ℕ
 commonRefusalOn l n k = cond (isRecord l) (commonRefusal (view l) n k) 9
 

@@ -1,4 +1,4 @@
-// The record check of a record lent as numbers, and the refusals that every call after open shares.
+// The check of a flat record, and the refusals shared by every call after open.
 ghost use mathlib.Core.Path.{_≡_};
 ghost use mathlib.Core.Bool.{true, _&&_};
 ghost use Prim.Native.Nat.{_<_};
@@ -17,13 +17,13 @@ use numbers::STORE_LEN;
 use numbers::WIDTH;
 use sound::MAX_MEMORY;
 
-// The refusal of an unsound record.
+// Refusal: the record is not sound.
 pub const UNSOUND_RECORD: u32 = 9;
 
-// The refusal of a memory whose length is not the record's.
+// Refusal: a memory's length is not the one in the record.
 pub const OTHER_LENGTH: u32 = 8;
 
-// Whether the numbers are a sound record.
+// Returns whether the numbers are a sound record.
 fn is_sound(numbers: &[u32]) -> bool
     ensures { λ r. ⌜ r ≡ (isRecord (now (numbers .entry)) && isSound (view (now (numbers .entry)))) ⌝ }
 {
@@ -60,7 +60,7 @@ fn is_sound(numbers: &[u32]) -> bool
     end <= store_len
 }
 
-// Whether none of the first k handles is the k-th.
+// Returns whether handle k differs from the k handles before it.
 fn is_absent(numbers: &[u32], k: usize) -> bool
     requires { ⌜ isRecord (now numbers) ≡ true ⌝ }
     requires { ⌜ k < at (now numbers) countPlace ⌝ }
@@ -77,7 +77,7 @@ fn is_absent(numbers: &[u32], k: usize) -> bool
     true
 }
 
-// Whether the handles of all pairs differ.
+// Returns whether all handles differ, by comparing every pair.
 fn all_pairs_differ(numbers: &[u32]) -> bool
     requires { ⌜ isRecord (now numbers) ≡ true ⌝ }
     ensures { λ r. ⌜ r ≡ distinct (view (now (numbers .entry)) .objects) (view (now (numbers .entry)) .count) ⌝ }
@@ -93,7 +93,7 @@ fn all_pairs_differ(numbers: &[u32]) -> bool
     true
 }
 
-// Whether the handles differ: all pairs are looked at only where the handles do not ascend.
+// Returns whether all handles differ. Pairs are compared only if the handles do not ascend.
 fn handles_differ(numbers: &[u32], ascending: bool) -> bool
     requires { ⌜ isRecord (now numbers) ≡ true ⌝ }
     requires { ⌜ (ascending ≡ true → distinct (view (now numbers) .objects) (view (now numbers) .count) ≡ true) ⌝ }
@@ -105,23 +105,8 @@ fn handles_differ(numbers: &[u32], ascending: bool) -> bool
     all_pairs_differ(numbers)
 }
 
-// The number with which every call is refused, 0 if calls are looked at.
-pub fn common_refusal(numbers: &[u32], panel_len: usize, store_len: usize) -> u32
-    ensures { λ r. ⌜ r ≡ commonRefusalOn (now (numbers .entry)) «panel_len» «store_len» ⌝ }
-{
-    if !is_sound(numbers) {
-        return UNSOUND_RECORD;
-    }
-    if panel_len != numbers[PANEL_LEN] as usize {
-        return OTHER_LENGTH;
-    }
-    if store_len != numbers[STORE_LEN] as usize {
-        return OTHER_LENGTH;
-    }
-    0
-}
-
-// The same where only the panel memory is lent: the store's length is the record's own.
+// Returns the number with which every call is refused, 0 if the record is ready. Only the panel memory is lent: the store's length
+// is not checked.
 pub fn panel_refusal(numbers: &[u32], panel_len: usize) -> u32
     ensures { λ r. ⌜ r ≡ panelRefusalOn (now (numbers .entry)) «panel_len» ⌝ }
 {
@@ -129,6 +114,20 @@ pub fn panel_refusal(numbers: &[u32], panel_len: usize) -> u32
         return UNSOUND_RECORD;
     }
     if panel_len != numbers[PANEL_LEN] as usize {
+        return OTHER_LENGTH;
+    }
+    0
+}
+
+// The same with both memories lent: the lengths of both are checked.
+pub fn common_refusal(numbers: &[u32], panel_len: usize, store_len: usize) -> u32
+    ensures { λ r. ⌜ r ≡ commonRefusalOn (now (numbers .entry)) «panel_len» «store_len» ⌝ }
+{
+    let no = panel_refusal(numbers, panel_len);
+    if no != 0 {
+        return no;
+    }
+    if store_len != numbers[STORE_LEN] as usize {
         return OTHER_LENGTH;
     }
     0

@@ -1,4 +1,4 @@
--- What is left where an object goes: its slot and its handle are gone, and every other bitmap lies where it lay or lower. Assumes nothing.
+-- The record without one of its objects: its slot and its handle are gone, and every other bitmap lies where it lay or lower. Assumes nothing.
 use mathlib.Core.Bool.{Bool, true, false, cond}
 use mathlib.Core.List.{List}
 use mathlib.Core.Path.{_≡_, refl, sym, _∙_, ap, subst}
@@ -122,7 +122,7 @@ module _ (b : GdiState) (s : Sound b) (i : ℕ) (lt : i < b .count) where
           here true r = frame-below (objectAt b c) p _ _ _ (omega (arith, sum-le bytes c i d))
           here false r = r
 
-  -- every other bitmap lies where it lay, or lower by the bytes that went
+  -- every other bitmap lies where it lay, or lower by the bytes removed
   pub moved : (k : ℕ) → eqb (handleAt (b .objects) i) k ≡ false
       → Shift (startOf b i) (bytesOf (objectAt b i)) (used b) (whereIs (withoutAt b i) (Bitmap k)) (whereIs b (Bitmap k))
   moved k ne = by (eqb k stockBitmap)

@@ -49,7 +49,7 @@ module _ (b : GdiState) (s : Sound b) (i : ℕ) (lt : i < b .count) where
       same e = handles-apart (b .objects) x y (b .count) (s .apart) (order (decLt j i) (decLt k i)) yc
           (ap (λ (t : Slot). t .handle) (sym xe) ∙ e ∙ ap (λ (t : Slot). t .handle) ye)
 
-  -- with the bytes of the object that goes, the sum is what it was
+  -- with the bytes of the removed object, the sum is what it was
   abbrev before : ℕ → ℕ
   before k = bytesIn (slotAt b k)
 

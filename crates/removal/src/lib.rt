@@ -1,4 +1,4 @@
-// An object leaves the table of a record lent as numbers, and its pixels the store.
+// Removes an object from the table of a flat record, and its pixels from the store.
 ghost use mathlib.Core.Path.{_≡_};
 ghost use mathlib.Core.Bool.{true};
 ghost use Prim.Native.Nat.{_<_};
@@ -15,7 +15,7 @@ use numbers::COUNT;
 use numbers::SLOT;
 use numbers::SLOTS;
 
-// Object i leaves the table, and the store closes up where its pixels were.
+// Removes object i from the table and its bytes from the store; both gaps are closed.
 pub fn take_out(numbers: &mut [u32], store: &mut [u8], i: usize)
     requires { ⌜ isRecord (now numbers) ≡ true ⌝ }
     requires { ⌜ isSound (view (now numbers)) ≡ true ⌝ }
@@ -32,7 +32,7 @@ pub fn take_out(numbers: &mut [u32], store: &mut [u8], i: usize)
     remove_slot(numbers, i);
 }
 
-// Object i leaves the table: the numbers of later slots move down by one slot. Those that the last one leaves stay as they are.
+// Removes object i from the table: the numbers of later slots move down by one slot. The last slot keeps its old numbers.
 fn remove_slot(numbers: &mut [u32], i: usize)
     requires { ⌜ isRecord (now numbers) ≡ true ⌝ }
     requires { ⌜ i < at (now numbers) countPlace ⌝ }

@@ -107,7 +107,8 @@ copy-painted d s n src m small =
         rw (e, at) (high-byte src (s + (k / 2 - d)) (bytes (2 * (s + (k / 2 - d)))))
 
 -- a row read into a buffer has the words that it was read from
-pub buffered : (n s : ℕ) (m row₀ : List ℕ) {row : List ℕ} → ((k : ℕ) → getD m k 0 < 256) → 2 * n ≤ length row₀ → row ≡ painted (between 0 (0 + n)) (λ i. word m (s + (i - 0))) row₀ → (k : ℕ) → k < n → word row (0 + k) ≡ word m (s + k)
+pub buffered : (n s : ℕ) (m row₀ : List ℕ) {row : List ℕ} → ((k : ℕ) → getD m k 0 < 256) → 2 * n ≤ length row₀
+    → row ≡ painted (between 0 (0 + n)) (λ i. word m (s + (i - 0))) row₀ → (k : ℕ) → k < n → word row (0 + k) ≡ word m (s + k)
 buffered n s m row₀ small room e k h =
     rw e
     (word-painted (between 0 (0 + n)) (λ i. word m (s + (i - 0))) row₀ (0 + k) (omega arith) (word-lt m (s + (0 + k - 0)) (small (2 * (s + (0 + k - 0)))) (small (2 * (s + (0 + k - 0)) + 1)))
@@ -115,7 +116,9 @@ buffered n s m row₀ small room e k h =
     ∙ ap (word m) (omega arith))
 
 -- Whatever is made of a row that was read into a buffer, and of the word there, is made of the row itself.
-pub through-buffer : (f : ℕ → ℕ → ℕ) (d s n : ℕ) (src m row₀ : List ℕ) {row : List ℕ} → ((k : ℕ) → getD src k 0 < 256) → 2 * n ≤ length row₀ → row ≡ painted (between 0 (0 + n)) (λ i. word src (s + (i - 0))) row₀ → painted (between d (d + n)) (λ i. f (word row (0 + (i - d))) (word m i)) m ≡ painted (between d (d + n)) (λ i. f (word src (s + (i - d))) (word m i)) m
+pub through-buffer : (f : ℕ → ℕ → ℕ) (d s n : ℕ) (src m row₀ : List ℕ) {row : List ℕ} → ((k : ℕ) → getD src k 0 < 256) → 2 * n ≤ length row₀
+    → row ≡ painted (between 0 (0 + n)) (λ i. word src (s + (i - 0))) row₀
+    → painted (between d (d + n)) (λ i. f (word row (0 + (i - d))) (word m i)) m ≡ painted (between d (d + n)) (λ i. f (word src (s + (i - d))) (word m i)) m
 through-buffer f d s n src m row₀ {row} small room e =
     painted-same (between d (d + n)) (between d (d + n)) (λ i. f (word row (0 + (i - d))) (word m i)) (λ i. f (word src (s + (i - d))) (word m i)) m (λ i lt. refl)
     (λ i lt t. let h = bounds d (d + n) i t in ap (λ (x : ℕ). f x (word m i)) (buffered n s src row₀ small room e (i - d) (omega arith)))

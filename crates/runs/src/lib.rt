@@ -1,12 +1,12 @@
-// Runs of words filled, zeroed, inverted: the loops over one row that drawing stands on. A run is the n words from word d on; a
-// caller owes that it lies within the memory.
+// Fills, zeroes and inverts a run of words: the loops over one row under every drawing. A run is the n words from word d on; the
+// caller guarantees that it lies within the memory.
 ghost use mathlib.Core.Path.{_≡_};
 ghost use Prim.Native.Nat.{_≤_, _*_, _+_, _-_};
 ghost use lib.ListN.{length};
 ghost use Rattle.arithmetic.specs.Interval.{between};
 ghost use Rattle.words.specs.Words.{painted, word};
 
-// v at each word of the run.
+// Stores v at each word of the run.
 pub fn fill_run(mem: &mut [u8], d: usize, n: usize, v: u16)
     requires { ⌜ 2 * (d + n) ≤ length (now mem) ⌝ }
     ensures { λ _. ⌜ now (mem .exit) ≡ painted (between d (d + n)) (λ _. v) (now (mem .entry)) ⌝ }
@@ -19,7 +19,7 @@ pub fn fill_run(mem: &mut [u8], d: usize, n: usize, v: u16)
     }
 }
 
-// 0 at each word of the run.
+// Stores 0 at each word of the run.
 pub fn zero_run(mem: &mut [u8], d: usize, n: usize)
     requires { ⌜ 2 * (d + n) ≤ length (now mem) ⌝ }
     ensures { λ _. ⌜ now (mem .exit) ≡ painted (between d (d + n)) (λ _. 0) (now (mem .entry)) ⌝ }
@@ -29,7 +29,7 @@ pub fn zero_run(mem: &mut [u8], d: usize, n: usize)
     }
 }
 
-// Each bit of the run inverted.
+// Inverts each bit of the run.
 pub fn invert_run(mem: &mut [u8], d: usize, n: usize)
     requires { ⌜ 2 * (d + n) ≤ length (now mem) ⌝ }
     ensures { λ _. ⌜ now (mem .exit) ≡ painted (between d (d + n)) (λ i. 65535 - word (now (mem .entry)) i) (now (mem .entry)) ⌝ }

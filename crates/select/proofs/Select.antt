@@ -1,4 +1,4 @@
--- The cases of a selection: no object to select, no DC, and the object tied into the DC. Assumes nothing.
+-- The cases of a selection: no object to select, no DC, and the object selected into the DC. Assumes nothing.
 use mathlib.Core.Bool.{false}
 use mathlib.Core.List.{[], _∷_}
 use mathlib.Core.Path.{_≡_, refl, sym, _∙_}

@@ -1,4 +1,4 @@
-// Selection, on a record lent as numbers.
+// Selection, on a flat record.
 ghost use mathlib.Core.Path.{_≡_};
 ghost use Rattle.numbers.specs.View.{view};
 ghost use Rattle.plan.specs.Select.{selectIn, selectedOf, selectInto};
@@ -12,7 +12,7 @@ use gdi::STOCK_DEFAULT_BITMAP;
 use gdi::SelectedBitmap;
 use plan::Answer;
 
-// The DC with the object of this handle and kind selected into it.
+// Returns the DC with the object of this handle and kind selected.
 pub fn select_in(d: Dc, handle: u32, kind: Kind) -> Dc
     ensures { λ r. ⌜ r ≡ selectIn d handle kind ⌝ }
 {
@@ -37,7 +37,7 @@ pub fn select_in(d: Dc, handle: u32, kind: Kind) -> Dc
     }
 }
 
-// The handle of this kind that the DC has.
+// Returns the handle of this kind that is selected in the DC.
 pub fn selected(d: Dc, kind: Kind) -> u32
     ensures { λ r. ⌜ r ≡ selectedOf d kind ⌝ }
 {
@@ -56,7 +56,7 @@ pub fn selected(d: Dc, kind: Kind) -> u32
     }
 }
 
-// Selects an object into a DC. The handle selected before; 0 if nothing is selected.
+// Selects an object into a DC; returns the handle selected before, or 0 if the handles name no such object or DC.
 pub fn select_into(numbers: &mut [u32], dc: u32, object: u32) -> Answer
     requires { ⌜ Lent (now numbers) (view (now numbers) .«panel_len») (view (now numbers) .«store_len») ⌝ }
     ensures { λ r. ⌜ OnNumbers (λ n. Followed (selectInto (view n) dc object) n) numbers (partsOf r) ⌝ }

@@ -1,4 +1,4 @@
-// Settings, each one field of one DC, on a record lent as numbers.
+// The setting calls: each changes one field of a DC in a flat record and returns the old value.
 ghost use Rattle.numbers.specs.View.{view};
 ghost use Rattle.plan.specs.Settings.{setTextColor, setTextAlign, setBkColor, setBkMode};
 ghost use Rattle.ready.proofs.Ready.{Lent};
@@ -8,7 +8,7 @@ use color::Colorref;
 use gdi::DcFound;
 use plan::Answer;
 
-// The refusal of a handle that is no DC's.
+// Refusal: the handle names no DC.
 pub const NO_DC: u32 = 1;
 
 pub fn set_text_color(numbers: &mut [u32], dc: u32, color: Colorref) -> Answer

@@ -41,7 +41,7 @@ and-group : (a b c : Bool) → (a && (b && c)) ≡ ((a && b) && c)
 and-group true b c = refl
 and-group false b c = refl
 
--- one that is given before handles go round
+-- a handle given out before handles wrap around
 pub given-fits : (h : ℕ) → 0xDEAD_1000 ≤ h → h < 0xDEAD_5701 → true ≡ handleFits h
 unfolding isStock
 given-fits h a b =
@@ -79,7 +79,7 @@ module _ (l : List ℕ) (few : at l countPlace ≤ 256) (i : ℕ) (lt : i < at l
   pub by-object : handleFits (at l (slotPlace i)) ≡ true → {t : Bool} → objectFits (objectFrom l (slotPlace i)) ≡ t → slotFits (slotAt (view l) i) ≡ t
   by-object e f = slot-fits ∙ ap (λ (u : Bool). u && objectFits (objectFrom l (slotPlace i))) e ∙ f
 
-  -- one that is none, or does not fit
+  -- a slot that is malformed, or does not fit
   pub no-slot : isSlot (lentSlot l i) ≡ false → 0 ≡ endOf l
   no-slot e = rw (all-fails i (at l countPlace) (λ k. isSlot (part l (slotPlace k) slotSize)) lt (ap isSlot (sym (lent-slot l i)) ∙ e))
 
@@ -122,7 +122,7 @@ pass-more l few i lt {end} {last} {x} {a} {b} p s h o e f =
       ascend = λ t. let q = both (ltb last (at l (slotPlace i))) a (sym f ∙ t) in ascend-more (view l .objects) i last (at l (slotPlace i)) (p .ascend (q .1)) (handle-read l few i lt) (ltb-true _ _ (q .0));
     }
 
--- at the end of the table, or at a slot that is none or does not fit
+-- at the end of the table, or at a slot that is malformed or does not fit
 pub all-passed : (l : List ℕ) {i end last : ℕ} {a : Bool} → i ≡ at l countPlace → Passed l i end last a → Scanned l (record { end = end; ascending = a })
 all-passed l {i} e p =
     record {

@@ -52,7 +52,9 @@ parts b e =
     }
 
 -- the last test, where the other parts are in order
-pub sound-if-room : (b : GdiState) {at : ℕ} → b .«panel_len» ≤ limit → b .«store_len» ≤ limit → b .count ≤ 256 → side (b .width) ≡ true → side (b .height) ≡ true → size (b .width) (b .height) ≤ b .«panel_len» → slotsFit b ≡ true → distinct (b .objects) (b .count) ≡ true → at ≡ used b → leb at (b .«store_len») ≡ isSound b
+pub sound-if-room : (b : GdiState) {at : ℕ} → b .«panel_len» ≤ limit → b .«store_len» ≤ limit → b .count ≤ 256
+    → side (b .width) ≡ true → side (b .height) ≡ true → size (b .width) (b .height) ≤ b .«panel_len»
+    → slotsFit b ≡ true → distinct (b .objects) (b .count) ≡ true → at ≡ used b → leb at (b .«store_len») ≡ isSound b
 unfolding isSound
 sound-if-room b p s c w h m f d e = rw (le-leb _ _ p, le-leb _ _ s, le-leb _ _ c, w, h, le-leb _ _ m, f, d, e)
 

@@ -11,11 +11,11 @@ use Rattle.well_formed.specs.Inner.{areSlots}
 use Rattle.sound.specs.declared.Scan.{Scan}
 use Rattle.sound.specs.Sound.{slotsFit, distinct, used}
 
--- the bytes of the store that hold pixels; 0 if a slot is none, or its object or handle is not what it has to be
+-- the bytes of the store that hold pixels; 0 if a slot is malformed, or its object or handle unsound
 abbrev pub endOf : List ℕ → ℕ
 endOf l = cond (areSlots l (at l countPlace) && slotsFit (view l)) (used (view l)) 0
 
--- What the pass finds. Handles that ascend differ; others may.
+-- The result of the pass. Handles that ascend differ; others may differ too.
 pub record Scanned (l : List ℕ) (s : Scan) : Type 0 where
   pub end : s .end ≡ endOf l
   pub apart : s .ascending ≡ true → distinct (view l .objects) (view l .count) ≡ true

@@ -1,4 +1,4 @@
-// What the objects of a record lent as numbers have to be, and where their pixels begin.
+// Checks the objects of a flat record, and finds where their pixels begin.
 ghost use mathlib.Core.Path.{_≡_};
 ghost use mathlib.Core.Bool.{true, false, not, _&&_};
 ghost use Prim.Native.Nat.{_+_, _*_, _≤_};
@@ -25,7 +25,7 @@ use numbers::SLOTS;
 // The most bytes that a memory may have.
 pub const MAX_MEMORY: usize = 33_554_432;
 
-// The bytes of an object's pixels.
+// Returns how many bytes an object's pixels have.
 pub fn object_bytes(object: GdiObject) -> usize
     requires { ⌜ objectFits object ≡ true ⌝ }
     ensures { λ r. ⌜ r ≡ bytesOf object ⌝ }
@@ -43,7 +43,7 @@ pub fn object_bytes(object: GdiObject) -> usize
     }
 }
 
-// Whether the object whose slot stands from number p on is what a created object has to be.
+// Returns whether the object in the slot at number p may be a created object.
 fn object_fits(numbers: &[u32], p: usize) -> bool
     requires { ⌜ p + slotSize ≤ length (now numbers) ⌝ }
     ensures { λ r. ⌜ r ≡ objectFits (objectOf (at (now (numbers .entry)) (p + kindPlace)) (part (now (numbers .entry)) (p + objectPlace) objectSize)) ⌝ }
@@ -61,7 +61,7 @@ fn object_fits(numbers: &[u32], p: usize) -> bool
     }
 }
 
-// The bytes of the pixels of the object whose slot stands from number p on.
+// Returns how many bytes the pixels of the object in the slot at number p have.
 pub fn bytes_of(numbers: &[u32], p: usize) -> usize
     requires { ⌜ p + slotSize ≤ length (now numbers) ⌝ }
     requires { ⌜ objectFits (objectOf (at (now numbers) (p + kindPlace)) (part (now numbers) (p + objectPlace) objectSize)) ≡ true ⌝ }
@@ -75,7 +75,7 @@ pub fn bytes_of(numbers: &[u32], p: usize) -> usize
     2 * (w * h)
 }
 
-// Whether a handle is neither 0 nor stock, as all are that are given before handles go round.
+// Returns whether a handle is neither 0 nor stock. Every handle given out before handles wrap around is so.
 fn handle_fits(h: u32) -> bool
     ensures { λ r. ⌜ r ≡ (not (eqb h 0) && not (isStock h)) ⌝ }
 {
@@ -90,9 +90,8 @@ fn handle_fits(h: u32) -> bool
     !gdi::is_stock_handle(h)
 }
 
-// What one pass over the slots finds: where the pixels of the created objects end in the store, behind those of the stock bitmap,
-// or 0 if a slot is none or its object is not what it has to be; and whether each handle is above the one before it, as it is
-// until handles go round, so that they differ.
+// The result of one pass over the slots: `end` is the end of all pixels in the store, or 0 if a slot is malformed or its object
+// unsound; `ascending` says that each handle is greater than the one before, so that all differ, as until handles wrap around.
 pub struct Scan {
     pub end: usize,
     pub ascending: bool,
@@ -107,7 +106,7 @@ fn unfit() -> Scan
     }
 }
 
-// Whether handles that ascended as far as last go on so with h.
+// Returns whether handles that ascend up to last still ascend with h.
 fn goes_on(ascending: bool, last: u32, h: u32) -> bool
     ensures { λ r. ⌜ r ≡ (ltb last h && ascending) ⌝ }
 {
@@ -117,7 +116,7 @@ fn goes_on(ascending: bool, last: u32, h: u32) -> bool
     false
 }
 
-// Looks at every slot.
+// Checks every slot in one pass.
 pub fn scan_slots(numbers: &[u32]) -> Scan
     requires { ⌜ length (now numbers) ≡ recordSize ⌝ }
     requires { ⌜ at (now numbers) countPlace ≤ 256 ⌝ }
@@ -148,7 +147,7 @@ pub fn scan_slots(numbers: &[u32]) -> Scan
     Scan { end, ascending }
 }
 
-// Where the pixels of object n begin in the store: behind those of the stock bitmap and of the objects before it.
+// Returns where the pixels of object n begin in the store: after those of the stock bitmap and of the objects before it.
 pub fn start_of(numbers: &[u32], n: usize) -> usize
     requires { ⌜ isRecord (now numbers) ≡ true ⌝ }
     requires { ⌜ slotsFit (view (now numbers)) ≡ true ⌝ }

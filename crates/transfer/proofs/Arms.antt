@@ -16,8 +16,7 @@ use Rattle.plan.specs.declared.Area.{Area}
 use Rattle.plan.specs.declared.Point.{Point}
 use Rattle.paint.specs.Memories.{Memories, memories, memoryOf, withMemory, over}
 use Rattle.plan.specs.Drawing.{blittedAt}
-use Rattle.transfer.specs.Inner.{SameOrApart, PlacesApart, blitPart, transferred}
-use Rattle.transfer.proofs.Numbers.{numbers}
+use Rattle.transfer.specs.Inner.{SameOrApart, PlacesApart, blitPart, numbers, transferred}
 use Rattle.transfer.proofs.Drawn.{no-source, part-back}
 
 module _ {at src : Place} {m r : Memory} {p w h q x y : ℕ} (e : at ≡ At m p w h) (f : src ≡ At r q x y) where

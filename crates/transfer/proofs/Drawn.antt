@@ -32,8 +32,7 @@ use Rattle.gdi.specs.Record.{size}
 use Rattle.place.specs.Place.{Inside}
 use Rattle.plan.specs.declared.Area.{Area}
 use Rattle.plan.specs.declared.Point.{Point}
-use Rattle.transfer.specs.Inner.{SameOrApart, blitPart}
-use Rattle.transfer.proofs.Numbers.{numbers}
+use Rattle.transfer.specs.Inner.{SameOrApart, blitPart, numbers}
 
 module _ (W H : ℕ) (a : Area) (f : Point) (SW SH t c : ℕ) where
   abbrev B : Blit

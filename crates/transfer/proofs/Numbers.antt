@@ -6,16 +6,14 @@ use Rattle.arithmetic.proofs.Machine.{held32, stored32}
 use Rattle.blit.specs.Blit.{Blit, blitOf}
 use Rattle.plan.specs.declared.Area.{Area}
 use Rattle.plan.specs.declared.Point.{Point}
+use Rattle.transfer.specs.Inner.{numbers}
 
 module _ (width height : ℕ) (a : Area) (f : Point) (src-w src-h : ℕ) where
-  abbrev pub numbers : Blit
-  numbers = blitOf width height (a .x) (a .y) (f .x) (f .y) (a .w) (a .h) src-w src-h
-
   abbrev pub held : Blit
   held = blitOf width height (held32 (a .x)) (held32 (a .y)) (held32 (f .x)) (held32 (f .y)) (held32 (a .w)) (held32 (a .h)) src-w src-h
 
   pub read : mag (a .x) < 2 ^ 31 → mag (a .y) < 2 ^ 31 → mag (a .w) < 2 ^ 31 → mag (a .h) < 2 ^ 31
-      → mag (f .x) < 2 ^ 31 → mag (f .y) < 2 ^ 31 → held ≡ numbers
+      → mag (f .x) < 2 ^ 31 → mag (f .y) < 2 ^ 31 → held ≡ numbers width height a f src-w src-h
   read x y w h fx fy =
       cc (
         stored32 (a .x) (record { sfits = x }),

@@ -1,21 +1,21 @@
-// Blits between surfaces, wherever they lie in the two memories. The source pixels are those before the call.
+// Blits between two surfaces in either memory. Source pixels are read as they were before the call.
 ghost use mathlib.Core.Path.{_≡_};
 ghost use lib.ListN.{length};
-ghost use Rattle.words.specs.Parts.{part, withPart};
+ghost use Rattle.words.specs.Parts.{part};
 ghost use Rattle.rop3.specs.Rop3.{tableOf};
-ghost use Rattle.blit.specs.Blit.{blitOf, marks};
+ghost use Rattle.blit.specs.Blit.{marks};
 ghost use Rattle.gdi.specs.Record.{size};
 ghost use Rattle.place.specs.Place.{Inside, Within};
 ghost use Rattle.paint.specs.Memories.{memories};
 ghost use Rattle.plan.specs.Drawing.{blittedAt};
-ghost use Rattle.transfer.specs.Inner.{SameOrApart, PlacesApart, blitPart, transferred};
+ghost use Rattle.transfer.specs.Inner.{SameOrApart, PlacesApart, numbers, blitInto, transferred};
 use color::Rgb565;
 use place::Memory;
 use place::Place;
 use plan::Area;
 use plan::Point;
 
-// A blit from the surface at src to the surface at. Whether a mark is due.
+// Blits from the surface at `src` to the surface at `at`. Returns whether a dirty mark is due.
 pub fn blit_at(
     panel: &mut [u8],
     store: &mut [u8],
@@ -99,7 +99,7 @@ pub fn blit_at(
     }
 }
 
-// From the surface at byte q of another memory to the one at byte p.
+// Blits to the surface at byte p from the surface at byte q of the other memory.
 fn blit_between(
     mem: &mut [u8],
     p: usize,
@@ -115,8 +115,8 @@ fn blit_between(
     pat: Rgb565,
 ) -> bool
     requires { ⌜ Inside (length (now mem)) p width height × Inside (length (now other)) q «src_w» «src_h» ⌝ }
-    ensures { λ r. ⌜ r ≡ marks (blitOf width height (area .x) (area .y) (from .x) (from .y) (area .w) (area .h) «src_w» «src_h») ⌝ }
-    ensures bytes { λ _. ⌜ now (mem .exit) ≡ withPart (now (mem .entry)) p (size width height) (blitPart area from (tableOf rop) (pat .0) (part (now (other .entry)) q (size «src_w» «src_h»)) «src_w» «src_h» width (part (now (mem .entry)) p (size width height))) ⌝ }
+    ensures { λ r. ⌜ r ≡ marks (numbers width height area from «src_w» «src_h») ⌝ }
+    ensures bytes { λ _. ⌜ now (mem .exit) ≡ blitInto p width height area from (tableOf rop) (pat .0) (part (now (other .entry)) q (size «src_w» «src_h»)) «src_w» «src_h» (now (mem .entry)) ⌝ }
 {
     let n = 2 * ((width * height) as usize);
     let k = 2 * ((src_w * src_h) as usize);
@@ -138,7 +138,7 @@ fn blit_between(
     )
 }
 
-// From the surface at byte q of a memory to the one at byte p of the same.
+// Blits to the surface at byte p from the surface at byte q of the same memory.
 fn blit_inside(
     mem: &mut [u8],
     p: usize,
@@ -154,8 +154,8 @@ fn blit_inside(
 ) -> bool
     requires { ⌜ Inside (length (now mem)) p width height × Inside (length (now mem)) q «src_w» «src_h» ⌝ }
     requires { ⌜ SameOrApart p width height q «src_w» «src_h» ⌝ }
-    ensures { λ r. ⌜ r ≡ marks (blitOf width height (area .x) (area .y) (from .x) (from .y) (area .w) (area .h) «src_w» «src_h») ⌝ }
-    ensures bytes { λ _. ⌜ now (mem .exit) ≡ withPart (now (mem .entry)) p (size width height) (blitPart area from (tableOf rop) (pat .0) (part (now (mem .entry)) q (size «src_w» «src_h»)) «src_w» «src_h» width (part (now (mem .entry)) p (size width height))) ⌝ }
+    ensures { λ r. ⌜ r ≡ marks (numbers width height area from «src_w» «src_h») ⌝ }
+    ensures bytes { λ _. ⌜ now (mem .exit) ≡ blitInto p width height area from (tableOf rop) (pat .0) (part (now (mem .entry)) q (size «src_w» «src_h»)) «src_w» «src_h» (now (mem .entry)) ⌝ }
 {
     blit_within::blit_within(
         mem,

@@ -10,10 +10,10 @@ use Rattle.words.specs.Parts.{part}
 use Rattle.numbers.specs.Layout.{dcSize, slotSize, recordSize, stockDirtyPlace, countPlace, screenPlace, slotPlace}
 use Rattle.numbers.specs.Block.{at, isFlag, isDc, isSlot}
 
--- what stands before the slots is in order
+-- the numbers before the slots are well formed
 unfoldable pub isHead : List ℕ → Bool
 isHead l = eqb (length l) recordSize && (isFlag (at l stockDirtyPlace) && (leb (at l countPlace) 256 && isDc (part l screenPlace dcSize)))
 
--- each of the first n slots is one
+-- each of the first n slots is well formed
 abbrev pub areSlots : List ℕ → ℕ → Bool
 areSlots l n = allBelow n (λ i. isSlot (part l (slotPlace i) slotSize))

@@ -1,4 +1,4 @@
-// Which flat numbers are a device record: the head and each slot.
+// Tests whether numbers are a record: the head, and each slot.
 ghost use mathlib.Core.Path.{_≡_};
 ghost use Prim.Native.Nat.{_≤_};
 ghost use lib.ListN.{length};
@@ -24,7 +24,7 @@ use numbers::SLOTS;
 use numbers::STOCK_DIRTY;
 use numbers::SURFACE;
 
-// Whether what stands before the slots is in order.
+// Returns whether the numbers before the slots are well formed.
 pub fn is_head(numbers: &[u32]) -> bool
     ensures { λ r. ⌜ r ≡ isHead (now (numbers .entry)) ⌝ }
 {
@@ -40,7 +40,7 @@ pub fn is_head(numbers: &[u32]) -> bool
     is_dc(&numbers[SCREEN..SLOTS])
 }
 
-// Whether the numbers are a slot.
+// Returns whether the numbers are a slot.
 pub fn is_slot(numbers: &[u32]) -> bool
     requires { ⌜ slotSize ≤ length (now numbers) ⌝ }
     ensures { λ r. ⌜ r ≡ isSlot (now (numbers .entry)) ⌝ }
@@ -48,7 +48,7 @@ pub fn is_slot(numbers: &[u32]) -> bool
     is_object(numbers[KIND], &numbers[OBJECT..SLOT])
 }
 
-// Whether the numbers are an object of this kind.
+// Returns whether the numbers are an object of this kind.
 fn is_object(kind: u32, numbers: &[u32]) -> bool
     requires { ⌜ objectSize ≤ length (now numbers) ⌝ }
     ensures { λ r. ⌜ r ≡ isObject kind (now (numbers .entry)) ⌝ }
@@ -87,8 +87,7 @@ fn is_dc(numbers: &[u32]) -> bool
     numbers[BITMAP] == 0
 }
 
-// Whether an object's numbers from k on are 0. All their bits at once tell, which is faster than to stop at the first number that
-// is not.
+// Returns whether an object's numbers from k on are 0: tested by combining all bits, without early exit, which is faster.
 fn zeros_from(numbers: &[u32], k: usize) -> bool
     requires { ⌜ (k ≤ objectSize) × (objectSize ≤ length (now numbers)) ⌝ }
     ensures { λ r. ⌜ r ≡ zerosFrom (now (numbers .entry)) k ⌝ }

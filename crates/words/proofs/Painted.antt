@@ -33,14 +33,14 @@ pub painted-none : (p : ℕ → Bool) (v : ℕ → ℕ) (m : List ℕ) → ((i :
 unfolding painted
 painted-none p v m h = written-none (λ k. p (k / 2)) (λ k. byteOf (v (k / 2)) (k % 2)) m (λ k lt. h (k / 2) (omega arith))
 
--- the same words, said otherwise
+-- two descriptions of the same words
 pub painted-same : (p q : ℕ → Bool) (v u : ℕ → ℕ) (m : List ℕ) → ((i : ℕ) → 2 * i < length m → p i ≡ q i) → ((i : ℕ) → 2 * i < length m → q i ≡ true → v i ≡ u i) → painted p v m ≡ painted q u m
 unfolding painted
 painted-same p q v u m e h =
     written-same (λ k. p (k / 2)) (λ k. q (k / 2)) (λ k. byteOf (v (k / 2)) (k % 2)) (λ k. byteOf (u (k / 2)) (k % 2)) m (λ k lt. e (k / 2) (omega arith))
     (λ k lt t. ap (λ (x : ℕ). byteOf x (k % 2)) (h (k / 2) (omega arith) t))
 
--- the same region, said otherwise
+-- two descriptions of the same region
 pub painted-cong : (p q : ℕ → Bool) (v : ℕ → ℕ) (m : List ℕ) → ((i : ℕ) → 2 * i < length m → p i ≡ q i) → painted p v m ≡ painted q v m
 painted-cong p q v m e = painted-same p q v v m e (λ i lt t. refl)
 

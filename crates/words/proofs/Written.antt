@@ -39,7 +39,7 @@ module _ (p : ℕ → Bool) (f : ℕ → ℕ) (m : List ℕ) where
 pub written-none : (p : ℕ → Bool) (f : ℕ → ℕ) (m : List ℕ) → ((k : ℕ) → k < length m → p k ≡ false) → m ≡ written p f m
 written-none p f m h = is-written p f m m refl (λ k lt. sym (ap (λ (t : Bool). cond t (f k) (getD m k 0)) (h k lt)))
 
--- the same bytes, said otherwise
+-- two descriptions of the same bytes
 pub written-same : (p q : ℕ → Bool) (f g : ℕ → ℕ) (m : List ℕ) → ((k : ℕ) → k < length m → p k ≡ q k) → ((k : ℕ) → k < length m → q k ≡ true → f k ≡ g k) → written p f m ≡ written q g m
 written-same p q f g m e h = is-written q g m (written p f m) (length-written p f m) (λ k lt. written-at p f m k lt ∙ ap (λ (t : Bool). cond t (f k) (getD m k 0)) (e k lt) ∙ by k lt (q k) refl)
   where

@@ -5,7 +5,13 @@ use Rattle.encode.proofs.put_dc.Statement.{statement}
 use Rattle.encode.proofs.put_dc.Tie as tie
 
 returns : tie.Need-returns
-returns c = rw (c .before .before .put .ensures, c .before .before .before .before .before .before .surface-number .ensures, c .before .before .before .before .before .present-number .ensures, c .before .before .before .before .bitmap-number .ensures, c .before .before .before .flag-number .ensures) (dc-coded (c .before .before .before .before .before .before .before .before .before .args .d))
+returns c =
+    let f = c .before .before .before in
+    let b = f .before in
+    let p = b .before in
+    let s = p .before in
+    let x = s .before .before .before in
+    rw (c .before .before .put .ensures, s .surface-number .ensures, p .present-number .ensures, b .bitmap-number .ensures, f .flag-number .ensures) (dc-coded (x .args .d))
 
 pub put-dc-spec : {M : Type 1} → statement M
 put-dc-spec =

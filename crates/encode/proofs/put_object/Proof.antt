@@ -9,7 +9,10 @@ returns : tie.Need-returns
 returns c = rw (c .before .before .before .before .before .object .given .1) (dc-object (c .before .before .put-dc .ensures))
 
 returns-2 : tie.Need-returns-2
-returns-2 c = rw (c .before .before .before .before .before .before .object2 .given .1, c .before .before .put-few .ensures, c .before .before .before .before .flag-number .ensures) (bitmap-coded _)
+returns-2 c =
+    let f = c .before .before .before .before in
+    let o = f .before .before in
+    rw (o .object2 .given .1, c .before .before .put-few .ensures, f .flag-number .ensures) (bitmap-coded _)
 
 returns-3 : tie.Need-returns-3
 returns-3 c = rw (c .before .before .before .before .before .object3 .given .1, c .before .before .put-few2 .ensures) (brush-coded _)
@@ -18,7 +21,11 @@ returns-4 : tie.Need-returns-4
 returns-4 c = rw (c .before .before .before .before .before .object4 .given .1, c .before .before .put-few3 .ensures) (pen-coded _)
 
 returns-5 : tie.Need-returns-5
-returns-5 c = rw (c .before .before .before .before .before .before .before .object5 .given .1, c .before .before .put-few4 .ensures) (font-coded _ _ (record { sfits = c .before .before .before .before .struct-told .given .0 .1 }) (c .before .before .before .unsigned .ensures))
+returns-5 c =
+    let u = c .before .before .before in
+    let s = u .before in
+    let o = s .before .before .before in
+    rw (o .object5 .given .1, c .before .before .put-few4 .ensures) (font-coded _ _ (record { sfits = s .struct-told .given .0 .1 }) (u .unsigned .ensures))
 
 pub put-object-spec : {M : Type 1} → statement M
 put-object-spec =

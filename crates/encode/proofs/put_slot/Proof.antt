@@ -10,10 +10,16 @@ use Rattle.encode.proofs.put_slot.Statement.{statement}
 use Rattle.encode.proofs.put_slot.Tie as tie
 
 slice-write-numbers-2 : tie.Need-slice-write-numbers-2
-slice-write-numbers-2 c = let s = c .before .before .before .before .before in still-long _ (now (s .args .numbers)) (c .before .before .put-object .last .0) (s .pre) (c .before .before .put-object .kept .0 ∙ length-part (now (s .args .numbers)) objectPlace objectSize (omega arith))
+slice-write-numbers-2 c =
+    let p = c .before .before in
+    let s = p .before .before .before in
+    still-long _ (now (s .args .numbers)) (p .put-object .last .0) (s .pre) (p .put-object .kept .0 ∙ length-part (now (s .args .numbers)) objectPlace objectSize (omega arith))
 
 returns : tie.Need-returns
-returns c = let s = c .before .before .before .before .before in slot-coded _ (now (s .args .numbers)) (c .before .before .put-object .last .0) (s .pre) (c .before .before .put-object .kept .0 ∙ length-part (now (s .args .numbers)) objectPlace objectSize (omega arith)) (c .before .before .put-object .ensures)
+returns c =
+    let p = c .before .before in
+    let s = p .before .before .before in
+    slot-coded _ (now (s .args .numbers)) (p .put-object .last .0) (s .pre) (p .put-object .kept .0 ∙ length-part (now (s .args .numbers)) objectPlace objectSize (omega arith)) (p .put-object .ensures)
 
 pub put-slot-spec : {M : Type 1} → statement M
 put-slot-spec =

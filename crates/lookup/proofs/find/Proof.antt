@@ -30,10 +30,18 @@ loop-holds : tie.Need-loop-holds Inv-loop μ-loop
 loop-holds c = (search needs, (record-count _ (c .before .pre), (record-length _ (c .before .pre), scan-start _ _)))
 
 returns : tie.Need-returns Inv-loop μ-loop
-returns c = sym (hit _ _ _ _ (c .before .before .loop-test .taken) (handle-seen _ (c .before .before .before .before .before .pre) _ (c .before .before .loop-test .taken) ∙ c .if1 .taken)) ∙ c .before .before .before .loop .inv .1 .1 .1
+returns c =
+    let l = c .before .before in
+    let o = l .before in
+    let s = o .before .before in
+    sym (hit _ _ _ _ (l .loop-test .taken) (handle-seen _ (s .pre) _ (l .loop-test .taken) ∙ c .if1 .taken)) ∙ o .loop .inv .1 .1 .1
 
 loop-again : tie.Need-loop-again Inv-loop μ-loop
-loop-again c = (search needs, (search needs, (search needs, sym (miss _ _ _ _ (c .before .before .loop-test .taken) (λ e. c .if1 .left (sym (handle-seen _ (c .before .before .before .before .before .pre) _ (c .before .before .loop-test .taken)) ∙ e))) ∙ c .before .before .before .loop .inv .1 .1 .1)))
+loop-again c =
+    let l = c .before .before in
+    let o = l .before in
+    let s = o .before .before in
+    (search needs, (search needs, (search needs, sym (miss _ _ _ _ (l .loop-test .taken) (λ e. c .if1 .left (sym (handle-seen _ (s .pre) _ (l .loop-test .taken)) ∙ e))) ∙ o .loop .inv .1 .1 .1)))
 
 returns-2 : tie.Need-returns-2 Inv-loop μ-loop
 returns-2 c = sym (end _ _ _ _ (c .loop-test .left)) ∙ c .before .loop .inv .1 .1 .1

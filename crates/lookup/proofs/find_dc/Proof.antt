@@ -27,25 +27,54 @@ mul-if2 : tie.Need-mul-if2
 mul-if2 c = omega (arith, found-room _ (c .before .before .before .before .before .before .pre) _ (c .before .before .before .find .ensures) (c .before .i .given .1))
 
 shared-slice-read-if2 : tie.Need-shared-slice-read-if2
-shared-slice-read-if2 c = omega (arith, found-room _ (c .before .before .before .before .before .before .before .pre) _ (c .before .before .before .before .find .ensures) (c .before .before .i .given .1))
+shared-slice-read-if2 c =
+    let f = c .before .before .before .before in
+    let s = f .before .before .before in
+    omega (arith, found-room _ (s .pre) _ (f .find .ensures) (c .before .before .i .given .1))
 
 returns-2 : tie.Need-returns-2
-returns-2 c = found-other _ (c .before .before .before .before .before .before .before .before .pre) _ (c .before .before .before .before .before .find .ensures) (c .before .before .before .i .given .1) (c .before .before .before .before .before .before .if1 .left) (c .if2 .taken)
+returns-2 c =
+    let i = c .before .before .before in
+    let f = i .before .before in
+    let a = f .before in
+    let s = a .before .before in
+    found-other _ (s .pre) _ (f .find .ensures) (i .i .given .1) (a .if1 .left) (c .if2 .taken)
 
 add-first : tie.Need-add-first
-add-first c = omega (arith, found-room _ (c .before .before .before .before .before .before .before .before .pre) _ (c .before .before .before .before .before .find .ensures) (c .before .before .before .i .given .1))
+add-first c =
+    let i = c .before .before .before in
+    let f = i .before .before in
+    let s = f .before .before .before in
+    omega (arith, found-room _ (s .pre) _ (f .find .ensures) (i .i .given .1))
 
 add-end : tie.Need-add-end
-add-end c = omega (arith, found-room _ (c .before .before .before .before .before .before .before .before .pre) _ (c .before .before .before .before .before .find .ensures) (c .before .before .before .i .given .1))
+add-end c =
+    let i = c .before .before .before in
+    let f = i .before .before in
+    let s = f .before .before .before in
+    omega (arith, found-room _ (s .pre) _ (f .find .ensures) (i .i .given .1))
 
 mul-dc-of : tie.Need-mul-dc-of
-mul-dc-of c = omega (arith, found-room _ (c .before .before .before .before .before .before .before .before .pre) _ (c .before .before .before .before .before .find .ensures) (c .before .before .before .i .given .1))
+mul-dc-of c =
+    let i = c .before .before .before in
+    let f = i .before .before in
+    let s = f .before .before .before in
+    omega (arith, found-room _ (s .pre) _ (f .find .ensures) (i .i .given .1))
 
 part-dc-of-end-2 : tie.Need-part-dc-of-end-2
-part-dc-of-end-2 c = omega (arith, found-room _ (c .before .before .before .before .before .before .before .before .pre) _ (c .before .before .before .before .before .find .ensures) (c .before .before .before .i .given .1))
+part-dc-of-end-2 c =
+    let i = c .before .before .before in
+    let f = i .before .before in
+    let s = f .before .before .before in
+    omega (arith, found-room _ (s .pre) _ (f .find .ensures) (i .i .given .1))
 
 returns-3 : tie.Need-returns-3
-returns-3 c = found-dc _ (c .before .before .before .before .before .before .before .before .before .before .pre) _ (c .before .before .before .before .before .before .before .find .ensures) (c .before .before .before .before .before .i .given .1) (c .before .before .before .before .before .before .before .before .if1 .left) (c .before .before .if2 .left) (c .dc-of2 .ensures)
+returns-3 c =
+    let i = c .before .before .before .before .before in
+    let f = i .before .before in
+    let a = f .before in
+    let s = a .before .before in
+    found-dc _ (s .pre) _ (f .find .ensures) (i .i .given .1) (a .if1 .left) (c .before .before .if2 .left) (c .dc-of2 .ensures)
 
 returns-4 : tie.Need-returns-4
 returns-4 c = dc-none _ _ (c .before .before .before .if1 .left) (sym (c .before .before .find .ensures) ∙ c .enum-told .given .1)

@@ -17,7 +17,10 @@ kind-at-requires : tie.Need-kind-at-requires
 kind-at-requires c κs = omega (arith, found-room _ (c .before .before .before .before .before .pre) _ (c .before .before .before .find .ensures) (c .before .i .given .1))
 
 returns : tie.Need-returns
-returns c = found-kind _ (c .before .before .before .before .before .before .pre) _ (c .before .before .before .before .find .ensures) (c .before .before .i .given .1) (c .kind-at .ensures)
+returns c =
+    let f = c .before .before .before .before in
+    let s = f .before .before in
+    found-kind _ (s .pre) _ (f .find .ensures) (c .before .before .i .given .1) (c .kind-at .ensures)
 
 returns-2 : tie.Need-returns-2
 unfolding kindOf

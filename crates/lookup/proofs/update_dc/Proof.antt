@@ -28,10 +28,18 @@ part-put-dc-end-2 : tie.Need-part-put-dc-end-2
 part-put-dc-end-2 c = omega (arith, spot-room _ (c .before .before .before .before .pre .0) _ (c .before .before .before .before .pre .1) (c .before .spot .given .1))
 
 returns : tie.Need-returns
-returns c = updated-screen _ (c .before .before .before .before .before .before .before .pre .0) _ (c .before .before .put-dc .last .0) (c .before .before .before .before .enum-told .given .1) (c .before .before .put-dc .kept .0) (c .before .before .put-dc .ensures)
+returns c =
+    let p = c .before .before in
+    let e = p .before .before in
+    let s = e .before .before .before in
+    updated-screen _ (s .pre .0) _ (p .put-dc .last .0) (e .enum-told .given .1) (p .put-dc .kept .0) (p .put-dc .ensures)
 
 returns-2 : tie.Need-returns-2
-returns-2 c = updated-created _ (c .before .before .before .before .before .before .before .before .pre .0) _ (c .before .before .before .before .before .before .before .before .pre .1) (c .before .before .before .before .before .spot .given .1) (c .before .before .put-dc2 .last .0) (c .before .before .put-dc2 .kept .0) (c .before .before .put-dc2 .ensures)
+returns-2 c =
+    let p = c .before .before in
+    let s = p .before .before .before in
+    let x = s .before .before .before in
+    updated-created _ (x .pre .0) _ (x .pre .1) (s .spot .given .1) (p .put-dc2 .last .0) (p .put-dc2 .kept .0) (p .put-dc2 .ensures)
 
 pub update-dc-spec : {M : Type 1} → statement M
 update-dc-spec =

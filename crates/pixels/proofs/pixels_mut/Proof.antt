@@ -1,7 +1,6 @@
 -- `pixels::pixels_mut` meets its contract. Assumes nothing.
-use denote.Ref.{now}
 use native.Mathlib.Omega.{arith}
-use Rattle.pixels.proofs.Parts.{area, panel-fits, store-fits, no-pixels, panel-part, store-part, no-pointer, panel-pointer, store-pointer}
+use Rattle.pixels.proofs.Parts.{area, panel-fits, store-fits, no-pixels, panel-part, store-part}
 use borrow.Author.Needs.{needs}
 use Rattle.pixels.proofs.pixels_mut.Statement.{statement}
 use Rattle.pixels.proofs.pixels_mut.Tie as tie
@@ -26,26 +25,23 @@ part-store-end c = omega (arith, store-fits (c .before .before .before .before .
 
 returns : tie.Need-returns
 returns c =
-    let e = c .before in
-    let p = e .before .before in
-    let s = p .before .before .before .before in
-    (no-pixels (now (s .args .numbers)) (now (s .args .panel)) (now (s .args .store)) (s .args .dc) (p .place-of .ensures) (e .enum-told .given .1), no-pointer (s .args .panel .ptr) (s .args .store .ptr) (p .place-of .ensures) (e .enum-told .given .1))
+    let p = c .before .before .before in
+    let s = p .before .before .before .before .args in
+    no-pixels (s .panel) (s .store) (p .place-of .ensures) (c .before .enum-told .given .1)
 
 returns-2 : tie.Need-returns-2
 returns-2 c =
-    let e = c .before in
-    let a = e .before .before .before in
+    let a = c .before .before .before .before in
     let p = a .before .before in
-    let s = p .before .before .before .before in
-    (panel-part (now (s .args .numbers)) (now (s .args .panel)) (now (s .args .store)) (s .args .dc) (p .place-of .ensures) (a .at .given .1) (e .enum-told2 .given .1), panel-pointer (s .args .panel .ptr) (s .args .store .ptr) (p .place-of .ensures) (a .at .given .1) (e .enum-told2 .given .1))
+    let s = p .before .before .before .before .args in
+    panel-part (s .panel) (s .store) (p .place-of .ensures) (a .at .given .1) (c .before .enum-told2 .given .1)
 
 returns-3 : tie.Need-returns-3
 returns-3 c =
-    let e = c .before in
-    let a = e .before .before .before in
+    let a = c .before .before .before .before in
     let p = a .before .before in
-    let s = p .before .before .before .before in
-    (store-part (now (s .args .numbers)) (now (s .args .panel)) (now (s .args .store)) (s .args .dc) (p .place-of .ensures) (a .at .given .1) (e .enum-told3 .given .1), store-pointer (s .args .panel .ptr) (s .args .store .ptr) (p .place-of .ensures) (a .at .given .1) (e .enum-told3 .given .1))
+    let s = p .before .before .before .before .args in
+    store-part (s .panel) (s .store) (p .place-of .ensures) (a .at .given .1) (c .before .enum-told3 .given .1)
 
 pub pixels-mut-spec : {M : Type 1} → statement M
 pixels-mut-spec =

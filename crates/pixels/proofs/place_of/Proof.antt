@@ -12,10 +12,16 @@ target-of-requires : tie.Need-target-of-requires
 target-of-requires c κs = let q = lent _ _ _ _ (c .before .common-refusal .ensures) (c .if1 .left) in (q .is-record, q .ready .sound)
 
 returns-2 : tie.Need-returns-2
-returns-2 c = no-dc _ _ _ _ (c .before .before .before .before .common-refusal .ensures) (c .before .before .before .if1 .left) (c .before .before .target-of .ensures) (c .enum-told .given .1)
+returns-2 c =
+    let i = c .before .before .before in
+    let a = i .before in
+    no-dc _ _ _ _ (a .common-refusal .ensures) (i .if1 .left) (c .before .before .target-of .ensures) (c .enum-told .given .1)
 
 returns-3 : tie.Need-returns-3
-returns-3 c = no-surface _ _ _ _ (c .before .before .before .before .common-refusal .ensures) (c .before .before .before .if1 .left) (c .before .before .target-of .ensures) (c .enum-told2 .given .1)
+returns-3 c =
+    let i = c .before .before .before in
+    let a = i .before in
+    no-surface _ _ _ _ (a .common-refusal .ensures) (i .if1 .left) (c .before .before .target-of .ensures) (c .enum-told2 .given .1)
 
 returns-4 : tie.Need-returns-4
 returns-4 c =

@@ -8,7 +8,9 @@ returns : tie.Need-returns
 returns c = frame-other (c .before .before .args .numbers .now) (c .before .before .args .p) (c .before .before .args .start) (c .if1 .taken)
 
 returns-2 : tie.Need-returns-2
-returns-2 c = frame-bitmap (c .before .before .before .before .args .numbers .now) (c .before .before .before .before .args .p) (c .before .before .before .before .args .start) (c .before .before .if1 .left)
+returns-2 c =
+    let s = c .before .before .before .before in
+    frame-bitmap (s .args .numbers .now) (s .args .p) (s .args .start) (c .before .before .if1 .left)
 
 pub frame-spec : {M : Type 1} → statement M
 frame-spec =

@@ -24,19 +24,36 @@ cast-n : tie.Need-cast-n Inv-loop μ-loop
 cast-n c = omega (arith, c .shared-slice-known2 .given countPlace)
 
 loop-holds : tie.Need-loop-holds Inv-loop μ-loop
-loop-holds c = (search needs, (record-count _ (c .before .before .pre .0), (record-length _ (c .before .before .pre .0), sought-first (c .before .before .args .numbers .now) (c .before .before .args .handle))))
+loop-holds c =
+    let s = c .before .before in
+    (search needs, (record-count _ (s .pre .0), (record-length _ (s .pre .0), sought-first (s .args .numbers .now) (s .args .handle))))
 
 returns : tie.Need-returns Inv-loop μ-loop
-returns c = let p = c .before .before .before .before .before .before .before in located-seen (p .args .numbers .now) (p .pre .0) (p .pre .1) (c .before .before .before .before .loop .i) (c .before .before .before .loop-test .taken) (c .before .before .before .before .loop .inv .1 .1 .1) (c .before .if1 .taken) (c .frame .ensures)
+returns c =
+    let l = c .before .before .before in
+    let o = l .before in
+    let s = o .before .before .before in
+    located-seen (s .args .numbers .now) (s .pre .0) (s .pre .1) (o .loop .i) (l .loop-test .taken) (o .loop .inv .1 .1 .1) (c .before .if1 .taken) (c .frame .ensures)
 
 bytes-of-requires : tie.Need-bytes-of-requires Inv-loop μ-loop
-bytes-of-requires c κs = (omega arith, object-sound (c .before .before .before .before .before .before .args .numbers .now) (c .before .before .before .before .before .before .pre .0) (c .before .before .before .before .before .before .pre .1) (c .before .before .before .loop .i) (c .before .before .loop-test .taken))
+bytes-of-requires c κs =
+    let o = c .before .before .before in
+    let s = o .before .before .before in
+    (omega arith, object-sound (s .args .numbers .now) (s .pre .0) (s .pre .1) (o .loop .i) (c .before .before .loop-test .taken))
 
 add-start : tie.Need-add-start Inv-loop μ-loop
-add-start c = omega (arith, next-small (c .before .before .before .before .before .before .before .args .numbers .now) (c .before .before .before .before .before .before .before .pre .0) (c .before .before .before .before .before .before .before .pre .1) (c .before .before .before .before .loop .i) (c .before .before .before .loop-test .taken) (c .before .before .before .before .loop .inv .1 .1 .1) (c .bytes-of .ensures))
+add-start c =
+    let l = c .before .before .before in
+    let o = l .before in
+    let s = o .before .before .before in
+    omega (arith, next-small (s .args .numbers .now) (s .pre .0) (s .pre .1) (o .loop .i) (l .loop-test .taken) (o .loop .inv .1 .1 .1) (c .bytes-of .ensures))
 
 loop-again : tie.Need-loop-again Inv-loop μ-loop
-loop-again c = let p = c .before .before .before .before .before .before .before in (search needs, (search needs, (search needs, sought-next (p .args .numbers .now) (p .pre .0) (p .pre .1) (c .before .before .before .before .loop .i) (c .before .before .before .loop-test .taken) (c .before .before .before .before .loop .inv .1 .1 .1) (c .bytes-of .ensures) (c .before .if1 .left))))
+loop-again c =
+    let l = c .before .before .before in
+    let o = l .before in
+    let s = o .before .before .before in
+    (search needs, (search needs, (search needs, sought-next (s .args .numbers .now) (s .pre .0) (s .pre .1) (o .loop .i) (l .loop-test .taken) (o .loop .inv .1 .1 .1) (c .bytes-of .ensures) (c .before .if1 .left))))
 
 returns-2 : tie.Need-returns-2 Inv-loop μ-loop
 returns-2 c = end-seen (c .before .before .before .before .before .args .numbers .now) (c .before .loop-test .left) (c .before .before .loop .inv .1 .1 .1) (c .untabled .ensures)

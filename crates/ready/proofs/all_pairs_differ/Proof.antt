@@ -38,7 +38,10 @@ returns : tie.Need-returns Inv-loop μ-loop
 returns c = some-fails _ _ (c .before .before .loop-test .taken) (sym (c .before .is-absent .ensures) ∙ not-true _ (c .if1 .taken))
 
 loop-again : tie.Need-loop-again Inv-loop μ-loop
-loop-again c = (search needs, (search needs, distinct-more (view (c .before .before .before .before .before .before .args .numbers .now) .objects) (c .before .before .before .loop .k) (c .before .before .before .loop .inv .1 .1) (sym (c .before .is-absent .ensures) ∙ not-false _ (c .if1 .left))))
+loop-again c =
+    let o = c .before .before .before in
+    let s = o .before .before .before in
+    (search needs, (search needs, distinct-more (view (s .args .numbers .now) .objects) (o .loop .k) (o .loop .inv .1 .1) (sym (c .before .is-absent .ensures) ∙ not-false _ (c .if1 .left))))
 
 returns-2 : tie.Need-returns-2 Inv-loop μ-loop
 returns-2 c = let e : c .before .loop .k ≡ at (c .before .before .before .before .args .numbers .now) countPlace = omega arith in all-seen _ _ e (c .before .loop .inv .1 .1)

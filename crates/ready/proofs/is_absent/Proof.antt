@@ -37,10 +37,15 @@ loop-holds : tie.Need-loop-holds Inv-loop μ-loop
 loop-holds c = (search needs, (slot-room _ (c .before .pre .0) _ (c .before .pre .1), refl))
 
 returns : tie.Need-returns Inv-loop μ-loop
-returns c = same-seen _ (c .before .before .before .before .before .pre .0) _ _ (c .before .before .loop-test .taken) (c .before .before .before .before .before .pre .1) (c .if1 .taken)
+returns c =
+    let s = c .before .before .before .before .before in
+    same-seen _ (s .pre .0) _ _ (c .before .before .loop-test .taken) (s .pre .1) (c .if1 .taken)
 
 loop-again : tie.Need-loop-again Inv-loop μ-loop
-loop-again c = (search needs, (search needs, differs-seen _ (c .before .before .before .before .before .pre .0) _ _ (c .before .before .loop-test .taken) (c .before .before .before .before .before .pre .1) (c .before .before .before .loop .inv .1 .1) (c .if1 .left)))
+loop-again c =
+    let o = c .before .before .before in
+    let s = o .before .before in
+    (search needs, (search needs, differs-seen _ (s .pre .0) _ _ (c .before .before .loop-test .taken) (s .pre .1) (o .loop .inv .1 .1) (c .if1 .left)))
 
 returns-2 : tie.Need-returns-2 Inv-loop μ-loop
 returns-2 c = let e : c .before .loop .j ≡ c .before .before .before .args .k = omega arith in sym (rw e at (c .before .loop .inv .1 .1))

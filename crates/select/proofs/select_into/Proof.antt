@@ -8,7 +8,9 @@ use Rattle.select.proofs.select_into.Statement.{statement}
 use Rattle.select.proofs.select_into.Tie as tie
 
 returns : tie.Need-returns
-returns c = λ ms. acceptance-same (c .before .before .before .before .before .pre .is-record) refl (select-other _ _ _ (c .before .before .find-kind .ensures) (c .enum-told .given .1))
+returns c =
+    let s = c .before .before .before .before .before in
+    λ ms. acceptance-same (s .pre .is-record) refl (select-other _ _ _ (c .before .before .find-kind .ensures) (c .enum-told .given .1))
 
 update-dc-requires : tie.Need-update-dc-requires
 update-dc-requires c κs =

@@ -1,30 +1,26 @@
 -- `settings::set_bk_mode` meets its contract. Assumes nothing.
-use mathlib.Core.Path.{refl, sym, _∙_, ap}
+use mathlib.Core.Path.{refl, ap}
 use Rattle.lookup.proofs.HasDc.{has-dc}
 use Rattle.plan.specs.Answer.{flagged}
-use Rattle.plan.proofs.Followed.{refusal, acceptance-record-only}
 use Rattle.settings.proofs.Settings.{set-in-dc, set-no-dc}
 use borrow.Author.Needs.{needs}
 use Rattle.settings.proofs.set_bk_mode.Statement.{statement}
 use Rattle.settings.proofs.set_bk_mode.Tie as tie
 
+returns : tie.Need-returns
+returns c =
+    let w = c .before .before .before .before .before in
+    let p = w .before .before in
+    set-in-dc _ _ _ (p .before .before .find-dc .ensures) (p .p .given .1) (ap flagged (w .with-bk-mode .ensures .0)) refl (w .with-bk-mode .ensures .1) (c .before .before .update-dc .ensures)
+
 update-dc-requires : tie.Need-update-dc-requires
 update-dc-requires c κs =
     let p = c .before .before .before .before in
     let f = p .before .before in
-    let s = f .before .before .before in
-    (s .pre .is-record, has-dc (f .find-dc .ensures) (p .p .given .1))
-
-returns : tie.Need-returns
-returns c =
-    let s = c .before .before in
-    let w = s .before .before .before in
-    let p = w .before .before in
-    let f = p .before .before in
-    λ ms. acceptance-record-only refl (set-in-dc _ _ _ _ (sym (f .find-dc .ensures) ∙ p .p .given .1) (ap flagged (w .with-bk-mode .ensures .0)) (w .with-bk-mode .ensures .1)) (s .update-dc .ensures)
+    (f .before .before .before .pre .is-record, has-dc (f .find-dc .ensures) (p .p .given .1))
 
 returns-2 : tie.Need-returns-2
-returns-2 c = λ ms. refusal (c .before .before .before .before .before .pre .is-record) (set-no-dc _ _ _ _ (sym (c .before .before .find-dc .ensures) ∙ c .enum-told .given .1))
+returns-2 c = let f = c .before .before in set-no-dc _ _ _ (f .find-dc .ensures) (c .enum-told .given .1) (f .before .before .before .pre .is-record)
 
 pub set-bk-mode-spec : {M : Type 1} → statement M
 set-bk-mode-spec =

@@ -18,10 +18,14 @@ cast-h : tie.Need-cast-h
 cast-h c = omega (arith, c .shared-slice-known3 .given (c .before .before .before .before .args .p + bitmapHeightPlace))
 
 mul-result : tie.Need-mul-result
-mul-result c = omega (arith, pixels-few (c .before .before .before .before .args .numbers .now) (c .before .before .before .before .args .p) (c .before .before .if1 .left) (c .before .before .before .before .pre .1))
+mul-result c =
+    let s = c .before .before .before .before in
+    omega (arith, pixels-few (s .args .numbers .now) (s .args .p) (c .before .before .if1 .left) (s .pre .1))
 
 mul-result-2 : tie.Need-mul-result-2
-mul-result-2 c = omega (arith, pixels-few (c .before .before .before .before .args .numbers .now) (c .before .before .before .before .args .p) (c .before .before .if1 .left) (c .before .before .before .before .pre .1))
+mul-result-2 c =
+    let s = c .before .before .before .before in
+    omega (arith, pixels-few (s .args .numbers .now) (s .args .p) (c .before .before .if1 .left) (s .pre .1))
 
 returns-2 : tie.Need-returns-2
 returns-2 c = bytes-bitmap (c .before .before .before .before .args .numbers .now) (c .before .before .before .before .args .p) (c .before .before .if1 .left)

@@ -9,10 +9,17 @@ returns : tie.Need-returns
 returns c = fits-dc (c .before .before .before .before .args .numbers .now) (c .before .before .before .before .args .p) (c .before .match .keys1)
 
 returns-2 : tie.Need-returns-2
-returns-2 c = bitmap-high (c .before .before .before .before .before .before .before .before .args .numbers .now) (c .before .before .before .before .before .before .before .before .args .p) (c .before .before .before .before .before .match .keys2) (sym (c .before .before .before .is-side .ensures) ∙ c .before .before .if1 .taken) (c .is-side2 .ensures)
+returns-2 c =
+    let i = c .before .before .before in
+    let m = i .before .before in
+    let s = m .before .before .before in
+    bitmap-high (s .args .numbers .now) (s .args .p) (m .match .keys2) (sym (i .is-side .ensures) ∙ c .before .before .if1 .taken) (c .is-side2 .ensures)
 
 returns-3 : tie.Need-returns-3
-returns-3 c = bitmap-narrow (c .before .before .before .before .before .before .args .numbers .now) (c .before .before .before .before .before .before .args .p) (c .before .before .before .match .keys2) (sym (c .before .is-side .ensures) ∙ c .if1 .left)
+returns-3 c =
+    let m = c .before .before .before in
+    let s = m .before .before .before in
+    bitmap-narrow (s .args .numbers .now) (s .args .p) (m .match .keys2) (sym (c .before .is-side .ensures) ∙ c .if1 .left)
 
 returns-4 : tie.Need-returns-4
 returns-4 c = fits-other (c .before .before .before .args .numbers .now) (c .before .before .before .args .p) (c .match .rest .0 .1) (c .match .rest .1)

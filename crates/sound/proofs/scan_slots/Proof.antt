@@ -88,7 +88,11 @@ loop-again c =
     let l = e .before .before in
     let f = l .before in
     let s = f .before .before .before in
-    (omega arith, (search needs, (search needs, pass-more (s .args .numbers .now) (s .pre .1) (f .loop .i) (l .loop-test .taken) (f .loop .inv .1 .1 .1) (sym (e .is-slot .ensures) ∙ not-false _ (d .if1 .left)) (sym (h .handle-fits .ensures) ∙ not-false _ (a .if2 .left)) (sym (o .object-fits .ensures) ∙ not-false _ (i .if3 .left)) (b .bytes-of .ensures) (g .goes-on .ensures))))
+    let slot = sym (e .is-slot .ensures) ∙ not-false _ (d .if1 .left) in
+    let handle = sym (h .handle-fits .ensures) ∙ not-false _ (a .if2 .left) in
+    let object = sym (o .object-fits .ensures) ∙ not-false _ (i .if3 .left) in
+    let more = pass-more (s .args .numbers .now) (s .pre .1) (f .loop .i) (l .loop-test .taken) (f .loop .inv .1 .1 .1) slot handle object (b .bytes-of .ensures) (g .goes-on .ensures) in
+    (omega arith, (search needs, (search needs, more)))
 
 returns-4 : tie.Need-returns-4 Inv-loop μ-loop
 returns-4 c = all-passed (c .before .before .before .before .args .numbers .now) {i = c .before .loop .i} (omega arith) (c .before .loop .inv .1 .1 .1)

@@ -3,7 +3,8 @@ use mathlib.Core.Path.{_≡_}
 use native.Mathlib.Omega.{arith}
 use borrow.Author.Needs.{needs}
 use Rattle.rop3.specs.Rop3.{tableOf}
-use Rattle.transfer.proofs.Numbers.{numbers, held, read}
+use Rattle.transfer.specs.Inner.{numbers}
+use Rattle.transfer.proofs.Numbers.{held, read}
 use Rattle.place.proofs.Places.{few-pixels}
 use Rattle.transfer.proofs.Drawn.{drawn-between}
 use Rattle.transfer.proofs.blit_between.Statement.{statement}

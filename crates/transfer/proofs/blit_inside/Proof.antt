@@ -2,7 +2,8 @@
 use mathlib.Core.Path.{_≡_}
 use borrow.Author.Needs.{needs}
 use Rattle.rop3.specs.Rop3.{tableOf}
-use Rattle.transfer.proofs.Numbers.{numbers, held, read}
+use Rattle.transfer.specs.Inner.{numbers}
+use Rattle.transfer.proofs.Numbers.{held, read}
 use Rattle.transfer.proofs.Drawn.{placed, drawn-inside}
 use Rattle.transfer.proofs.blit_inside.Statement.{statement}
 use Rattle.transfer.proofs.blit_inside.Tie as tie

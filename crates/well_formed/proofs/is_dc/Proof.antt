@@ -18,7 +18,11 @@ returns-4 : tie.Need-returns-4
 returns-4 c = dc-present _ (c .before .before .if3 .left) (c .if4 .taken)
 
 returns-5 : tie.Need-returns-5
-returns-5 c = dc-absent _ (c .before .before .before .before .before .before .before .if1 .left) (c .before .before .before .before .before .if2 .left) (c .before .before .before .if3 .left) (c .before .if4 .left)
+returns-5 c =
+    let i = c .before .before .before in
+    let a = i .before .before in
+    let b = a .before .before in
+    dc-absent _ (b .if1 .left) (a .if2 .left) (i .if3 .left) (c .before .if4 .left)
 
 pub is-dc-spec : {M : Type 1} → statement M
 is-dc-spec =

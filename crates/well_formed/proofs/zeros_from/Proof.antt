@@ -22,10 +22,15 @@ loop-holds : tie.Need-loop-holds Inv-loop μ-loop
 loop-holds c = (omega arith, (search needs, zeros-start (now (c .args .numbers)) (c .args .k)))
 
 loop-again : tie.Need-loop-again Inv-loop μ-loop
-loop-again c = (omega arith, (omega arith, zeros-more (c .before .before .before .args .numbers .now) (c .before .before .before .args .k) (c .before .before .loop .i) (c .before .before .loop .bits) (c .before .before .loop .inv .0) (c .before .before .loop .inv .1 .1)))
+loop-again c =
+    let o = c .before .before in
+    let s = o .before in
+    (omega arith, (omega arith, zeros-more (s .args .numbers .now) (s .args .k) (o .loop .i) (o .loop .bits) (o .loop .inv .0) (o .loop .inv .1 .1)))
 
 returns : tie.Need-returns Inv-loop μ-loop
-returns c = zeros-end (now (c .before .before .args .numbers)) (c .before .before .args .k) (c .before .loop .i) (c .before .loop .bits) (c .before .loop .inv .1 .0) (c .loop-test .left) (c .before .loop .inv .1 .1)
+returns c =
+    let s = c .before .before in
+    zeros-end (now (s .args .numbers)) (s .args .k) (c .before .loop .i) (c .before .loop .bits) (c .before .loop .inv .1 .0) (c .loop-test .left) (c .before .loop .inv .1 .1)
 
 pub zeros-from-spec : {M : Type 1} → statement M
 zeros-from-spec =
