@@ -25,7 +25,7 @@ pub record SameOrApart (p w h q x y : ℕ) : Type 0 where
   pub whole-source : 2 * (q / 2) ≡ q
   pub apart : ((p ≡ q) × ((w ≡ x) × (h ≡ y))) ⊎ ((p + size w h ≤ q) ⊎ (q + size x y ≤ p))
 
--- two places in one memory are as `Side` says; nothing is required of other places
+-- two places in one memory hold the same surface or do not overlap (`SameOrApart`); nothing is required of other places
 abbrev pub PlacesApart : Place → Place → Type 0
 PlacesApart Nowhere v = Unit
 PlacesApart (At Panel p w h) Nowhere = Unit
