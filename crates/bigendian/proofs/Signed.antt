@@ -34,7 +34,7 @@ signed-range half n h = by (decLt n half)
 pub low-returns : (half : ℕ) {n m : ℕ} → n < half → half ≤ 2 ^ 31 → n ≡ m → toZ w32 n ≡ signed half m
 low-returns half {n} {m} h b e = rw (← e, lt-ltb n half h, lt-ltb n (2 ^ 31) (omega arith))
 
--- the upper half, by way of 64 bits
+-- the upper half, computed in 64 bits
 module _ (half : ℕ) {n : ℕ} (low : half ≤ n) (high : n < 2 * half) (small : half ≤ 2 ^ 31) where
   abbrev less : ℤ
   less = toZ w64 n -ℤ pos (2 * half)

@@ -1,11 +1,11 @@
-// Numbers in a byte slice, most significant byte first; signed ones are two's complement. A caller owes the bytes: it tests
-// the length of what it reads once, and then takes number after number.
+// Numbers in a byte slice, most significant byte first; signed ones are in two's complement. The caller guarantees that the
+// bytes are there: it tests the length once, and then reads number after number.
 ghost use mathlib.Core.Path.{_≡_};
 ghost use Prim.Native.Nat.{_+_, _≤_};
 ghost use lib.ListN.{length};
 ghost use Rattle.bigendian.specs.BigEndian.{be16, be32, signed16, signed32};
 
-// The unsigned number in the two bytes from `at` on, which the caller owes.
+// Returns the unsigned number in the two bytes from `at` on.
 pub fn read_u16(s: &[u8], at: usize) -> u16
     requires { ⌜ at + 2 ≤ length (now s) ⌝ }
     ensures { λ r. ⌜ r ≡ be16 (now (s .entry)) at ⌝ }
@@ -15,7 +15,7 @@ pub fn read_u16(s: &[u8], at: usize) -> u16
     256 * hi + lo
 }
 
-// The unsigned number in the four bytes from `at` on, which the caller owes.
+// Returns the unsigned number in the four bytes from `at` on.
 pub fn read_u32(s: &[u8], at: usize) -> u32
     requires { ⌜ at + 4 ≤ length (now s) ⌝ }
     ensures { λ r. ⌜ r ≡ be32 (now (s .entry)) at ⌝ }
@@ -25,7 +25,7 @@ pub fn read_u32(s: &[u8], at: usize) -> u32
     65536 * hi + lo
 }
 
-// The signed number in the two bytes from `at` on, which the caller owes.
+// Returns the signed number in the two bytes from `at` on.
 pub fn read_i16(s: &[u8], at: usize) -> i32
     requires { ⌜ at + 2 ≤ length (now s) ⌝ }
     ensures { λ r. ⌜ r ≡ signed16 (be16 (now (s .entry)) at) ⌝ }
@@ -37,7 +37,7 @@ pub fn read_i16(s: &[u8], at: usize) -> i32
     ((n as i64) - 0x1_0000) as i32
 }
 
-// The signed number in the four bytes from `at` on, which the caller owes.
+// Returns the signed number in the four bytes from `at` on.
 pub fn read_i32(s: &[u8], at: usize) -> i32
     requires { ⌜ at + 4 ≤ length (now s) ⌝ }
     ensures { λ r. ⌜ r ≡ signed32 (be32 (now (s .entry)) at) ⌝ }

@@ -1,5 +1,5 @@
--- Packing undoes widening at each of the 65,536 words; every word and colour fits its width; the channels of a widened word; the RGB555 word that comes back.
--- Assumes nothing.
+-- Packing undoes widening at each of the 65,536 words; every word and colour fits its width; the channels of a widened word; an
+-- RGB555 word converted to RGB565 and back. Assumes nothing.
 use mathlib.Core.Path.{_≡_}
 use Prim.Native.Nat.{ℕ, _+_, _*_, _/_, _%_, _<_}
 use native.Mathlib.Nat.{div-div-eq-div-mul}

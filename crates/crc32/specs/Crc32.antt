@@ -3,7 +3,7 @@ use mathlib.Core.List.{List, [], _∷_}
 use Prim.Native.Nat.{ℕ, zero, suc, _*_, _/_, _%_}
 use lib.Bits.{bitXor}
 
--- one shift: the low bit goes out, and if it is 1 the reflected polynomial is added
+-- one shift: the low bit is shifted out, and if it is 1 the reflected polynomial is added
 unfoldable pub bitStep : ℕ → ℕ
 bitStep c = bitXor (c / 2) (c % 2 * 0xEDB88320)
 

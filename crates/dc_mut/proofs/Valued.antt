@@ -167,7 +167,7 @@ module _ {M : Type 1} (𝓤 : URA M) (H : Heap 𝓤) (A : Atoms 𝓤) (W : Given
         -- [the token; what says the copy's last value; …; the lender's part; _6; …; _5; …; room for _4; …]
         land ! (from ! (stop !)) (init ! 8 refl (subst (λ (v : Val). Holds (hasTy (K .ty) v) × WT v) (sym (ap only (K .tells (S .old h) (w ∷ []) is))) (K .typed 𝓤 H A W (S .old h) (S .is-old h is-h)))) $
         rewrite ! 8 (λ (v : Val). ‵ (fat fullShare (K .ty) l₄ 0 v)) (ap only (K .tells (S .old h) (w ∷ []) is)) refl $
-        -- the lifetime ends, and the copy comes back at its last value
+        -- the lifetime ends, and the copy has its last value
         split ! $ lft-end ! tt $ move ! (0 ∷ 4 ∷ 2 ∷ []) $ use3 W (later (‵ (partAt T.the-row fullShare h′ l₃ 0))) (ref-back 𝓤 H A W T.the-row (α ∷ []) γ h′ l₃ 0) $ await ! tt $
         use1 W (‵ (fat fullShare T′.mir l₃ 0 (vstruct (parts h′)))) (lies-out 𝓤 H A W h′ l₃) $
         -- [_3; …; _6; …; _5; …; _4; …; (_3) …; _2; …; _1; …; room for _0; …]

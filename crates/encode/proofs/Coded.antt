@@ -29,7 +29,7 @@ use Rattle.numbers.specs.Layout.{objectSize, slotSize, handlePlace, kindPlace, 
 use Rattle.numbers.specs.Block.{at, flagOf, isFlag, flagNumber, surfaceOf, bitmapOf, dcFields, isDc, objectOf, isObject, ObjectCoded}
 use Rattle.numbers.proofs.Block.{surfaceNumber, presentNumber, bitmapNumber, DcCoded, SlotCoded, flag-back, flag-flag, dcNumbers, lentBack, lent-back}
 
--- what was turned into numbers comes back
+-- what was written as numbers is read back
 surface-back : (s : DcSurface) → surfaceOf (surfaceNumber s) ≡ s
 surface-back Screen = refl
 surface-back Memory = refl

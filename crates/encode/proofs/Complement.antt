@@ -1,4 +1,4 @@
--- Laws of the two's complement of an integer of 32 bits, as the code makes it by way of 64. Assumes nothing.
+-- Laws of the two's complement of an integer of 32 bits, as the code computes it in 64 bits. Assumes nothing.
 use mathlib.Core.Bool.{true, false}
 use mathlib.Core.Path.{_≡_, _∙_}
 use Prim.Native.Nat.{ℕ, _+_, _-_, _*_, _≤_, _<_, _^_}

@@ -1,1 +1,1 @@
-// The worked examples of the specification, as theorems about the definitions. They stand in specs/; there is no code.
+// The worked examples of the specification, as theorems about the definitions. They are in specs/; there is no code.

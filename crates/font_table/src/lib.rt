@@ -196,14 +196,14 @@ const GLYPHS: [[u8; 8]; 95] = [
     [0x40, 0xA8, 0x10, 0x00, 0x00, 0x00, 0x00, 0x00],
 ];
 
-// The whole table.
+// Returns the whole table.
 pub fn glyphs() -> [[u8; 8]; 95]
     ensures { λ r. ⌜ r ≡ glyphs ⌝ }
 {
     GLYPHS
 }
 
-// The eight rows of glyph i, which is the character 0x20 + i. A caller owes that there is one.
+// Returns the eight rows of glyph i, which is the character 0x20 + i. The caller guarantees that there is one.
 pub fn glyph(i: usize) -> [u8; 8]
     requires { ⌜ i < 95 ⌝ }
     ensures { λ r. ⌜ r ≡ glyphOf i ⌝ }

@@ -10,7 +10,7 @@ use borrow.Author.Tests.{lt-leb, le-leb}
 use Rattle.arithmetic.proofs.Test.{and-false}
 use Rattle.gdi.specs.Stock.{isStock}
 
--- the test of keys, from what a `match` on a number tells
+-- the test of keys, from the arms of a `match` on a number
 pub key-true : (ks : List ℕ) (x : ℕ) → OneOf ks x → hasKey ks x ≡ true
 key-true ks x o = by (hasKey ks x) (λ n. miss ks x n o)
   where

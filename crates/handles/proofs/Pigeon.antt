@@ -43,7 +43,7 @@ without-has x z (y ∷ l) ne e = by (eqb y x) refl (eqb y z) refl e (without-has
     by false a true b f less = rw b
     by false a false b f less = rw b (less f)
 
--- m values that differ and all stand in a list: the list has m elements at least
+-- a list that contains m different values has at least m elements
 pub pigeon : (f : ℕ → ℕ) (m : ℕ) (l : List ℕ) → ((i j : ℕ) → i < j → j < m → f i ≡ f j → ⊥) → ((i : ℕ) → i < m → hasKey l (f i) ≡ true) → m ≤ length l
 pigeon f zero l apart all = omega arith
 pigeon f (suc m) l apart all =

@@ -1,17 +1,17 @@
 // What the test programs share: their input, and a memory filled before it is used.
 ghost use Rattle.io.specs.Counts.{Counts};
 
-// A longer input is a bad one.
+// The longest input; a longer one is bad.
 pub const LONGEST: usize = 1_048_576;
 
-// Reads standard input, and one byte more than the longest if it is too long. How many bytes were read.
+// Reads standard input, at most one byte more than the longest. Returns how many bytes were read.
 pub fn read_input(s: &mut [u8; LONGEST + 1]) -> usize
     ensures { λ r. ⌜ Counts r (now (s .exit)) ⌝ }
 {
     io::read_full(libc::STDIN_FILENO, s)
 }
 
-// Fills a memory with bytes that rise by `step` from `first` on, and start anew after 251; with the step 0 all are `first`.
+// Fills a memory with bytes that rise by `step` from `first` on and wrap around after 251; with step 0 all are `first`.
 pub fn fill(mem: &mut [u8], first: u8, step: u8) {
     for k in 0..mem.len() {
         mem[k] = ((first as usize + (step as usize) * (k % 251)) % 256) as u8;

@@ -1,4 +1,4 @@
--- What a call made of numbers does: the plan of the call that they encode.
+-- A host's call, as numbers: its plan is that of the call that they encode.
 use mathlib.Core.Bool.{cond, _&&_}
 use mathlib.Core.List.{List}
 use Prim.Native.Nat.{ℕ}

@@ -1,4 +1,4 @@
--- The call that numbers stand for.
+-- The call that numbers encode.
 use mathlib.Core.Bool.{cond}
 use lib.Dec.{eqb, leb}
 use Rattle.plan.specs.declared.Area.{Area}

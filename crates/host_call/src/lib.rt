@@ -55,7 +55,7 @@ fn from_of(c: HostCall) -> Point
     }
 }
 
-// The call that the numbers stand for.
+// Returns the call that the numbers encode.
 pub fn call_of(c: HostCall) -> ParsedCall
     ensures { λ r. ⌜ r ≡ callOf c ⌝ }
 {

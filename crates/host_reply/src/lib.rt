@@ -19,7 +19,7 @@ pub struct Reply {
     pub fields: [u32; OBJECT_SIZE],
 }
 
-// An answer without an object.
+// Returns the reply for an answer without an object.
 fn plain(refusal: u32, value: u32, flag: bool) -> Reply
     ensures { λ r. ⌜ r ≡ plainReply refusal value flag ⌝ }
 {
@@ -32,7 +32,7 @@ fn plain(refusal: u32, value: u32, flag: bool) -> Reply
     }
 }
 
-// An answer as numbers.
+// Returns the reply for an answer.
 pub fn reply_of(answer: Answer) -> Reply
     ensures { λ r. ⌜ Replied (partsOf answer) r ⌝ }
 {

@@ -15,7 +15,7 @@ use Rattle.arithmetic.specs.Integer.{positive}
 use Rattle.arithmetic.specs.Inner.{negative}
 use Rattle.lines.specs.Lines.{sign}
 
--- a number that is not negative goes into an unsigned word
+-- a number that is not negative fits an unsigned word
 as-unsigned : (z : ℤ) → SFits w64 z → negative z ≡ 0 → T (nonNeg z) × Fits w64 (natAbs z)
 as-unsigned z f h = (not-negative z h, record { fits = rw (abs-positive z h) (omega (arith, range64 z f)) })
 

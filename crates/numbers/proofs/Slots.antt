@@ -9,7 +9,7 @@ use Rattle.words.specs.Parts.{part, withPart}
 use Rattle.words.proofs.Parts.{length-part}
 use Rattle.numbers.specs.Layout.{slotSize, recordSize, slotPlace}
 
--- a slot's numbers as the code lends them, and as they come back
+-- a slot's numbers as the code lends them, and after they were lent
 abbrev pub lentSlot : List ℕ → ℕ → List ℕ
 lentSlot l i = take (slotPlace i + slotSize - slotPlace i) (drop (slotPlace i) l)
 

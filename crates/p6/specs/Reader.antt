@@ -1,5 +1,5 @@
--- A reader of the P6 picture format, as Netpbm's page on PPM has it. Each part is followed by the rest, k, on the bytes behind it.
--- Decision 49 lists what it takes beyond the page, and what it leaves out.
+-- A reader of the P6 picture format, as Netpbm's page on PPM has it. Each part reads its bytes and passes the bytes after them to k.
+-- Decision 49 lists what it accepts beyond the page, and what it does not accept.
 use mathlib.Core.Bool.{Bool, false, _&&_, _||_, cond}
 use mathlib.Core.List.{List, [], _∷_}
 use Prim.Native.Nat.{ℕ, _+_, _*_, _-_}

@@ -6,7 +6,7 @@ ghost use lib.ListN.{length};
 ghost use Rattle.pixmap.specs.Pixmap.{served, isPicture, pictureOf};
 ghost use Rattle.p6.specs.Inner.{put};
 
-// The longest side that is served.
+// The longest side of a picture.
 const LONGEST_SIDE: u16 = 144;
 
 // The length of the longest input that is a picture: two sides and their pixels.
@@ -42,7 +42,7 @@ fn write_pixels(input: &[u8], out: &mut [u8]) -> usize
     n
 }
 
-// Whether an input is a picture: two sides, and exactly the pixels that they say.
+// Returns whether an input is a picture: two sides, then exactly as many pixels as they require.
 fn is_picture(input: &[u8]) -> bool
     ensures { λ r. ⌜ r ≡ isPicture (now (input .entry)) ⌝ }
 {
@@ -59,7 +59,7 @@ fn is_picture(input: &[u8]) -> bool
     false
 }
 
-// Whether a side is served.
+// Returns whether a side is within the limit.
 fn is_served(n: u16) -> bool
     ensures { λ r. ⌜ r ≡ served n ⌝ }
 {

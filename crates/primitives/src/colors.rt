@@ -159,7 +159,7 @@ fn sweep_line(block: u8) -> Line
     with_swept(from555, 0x04, block, 2)
 }
 
-// The line with the CRC of a block that case 02, 03 or 04 works out.
+// The line with the CRC of a block as case 02, 03 or 04 converts it.
 fn with_swept(l: Line, kind: u8, block: u8, step: usize) -> Line
     requires { ⌜ (l .len ≤ 30) × (step ≤ 3) ⌝ }
     ensures { λ r. ⌜ r .len ≡ l .len + 9 ⌝ }

@@ -1,5 +1,5 @@
-// Works out a list of cases (docs/primitive-cases.md) with the proved functions, and prints an answer to each or the final
-// picture. What is drawn is for the libraries to prove; here every function is proved safe, and to end.
+// Runs a list of cases (docs/primitive-cases.md) with the proved functions, and prints an answer to each or the final picture. The
+// libraries' contracts say what is drawn; the functions of this program are proved to be safe and to end.
 mod colors;
 mod drawing;
 mod line;
@@ -36,14 +36,14 @@ struct Ended {
     surface: Sides,
 }
 
-// Reads the script, and works it out.
+// Reads the script and runs it.
 fn main() {
     let mut script = [0u8; LONGEST + 1];
     let n = harness::read_input(&mut script);
     run(&script[..n]);
 }
 
-// Works out a whole script.
+// Runs a whole script.
 fn run(s: &[u8]) {
     match mode_of(s) {
         Mode::Answers => perform(s, true),
@@ -82,7 +82,7 @@ fn perform(s: &[u8], shown: bool) {
     }
 }
 
-// Works out case after case, and prints the answers if they are shown.
+// Runs case after case, and prints the answers if they are shown.
 fn run_cases(s: &[u8], mem: &mut [u8], shown: bool) -> Ended
     requires { ⌜ length (now mem) ≡ 153600 ⌝ }
     ensures { λ r. ⌜ Served (r .surface) ⌝ }

@@ -1,4 +1,4 @@
--- What the reading functions hand each other, as far as their safety needs it: where in a stream of n bytes they came to.
+-- What the reading functions guarantee each other, as far as their safety needs it: how far they have read in a stream of n bytes.
 use Prim.Native.Nat.{ℕ, _≤_}
 use Rattle.records.specs.declared.read.Case.{Case}
 use Rattle.records.specs.declared.read.Slots.{Slots}

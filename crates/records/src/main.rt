@@ -1,5 +1,5 @@
-// Tries every call on device records that are read as bytes (docs/record-cases.md), and prints what each record is refused
-// with. Every function is proved safe, and to end; what is printed is compared.
+// Tries every call on device records that are read as bytes (docs/record-cases.md), and prints the number with which each record is
+// refused. The functions of this program are proved to be safe and to end; the comparison checks what it prints.
 mod read;
 mod same;
 mod tried;
@@ -30,7 +30,7 @@ fn run(s: &[u8]) {
     }
 }
 
-// Whether a stream has a length that is served and begins as it must.
+// Returns whether a stream is not too long and begins with the magic number.
 fn begins_well(s: &[u8]) -> bool {
     if LONGEST < s.len() {
         return false;

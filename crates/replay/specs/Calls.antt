@@ -1,4 +1,4 @@
--- What the program's functions hand each other, as far as their safety needs it.
+-- What the program's functions guarantee each other, as far as their safety needs it.
 use mathlib.Core.List.{List}
 use mathlib.Core.Path.{_≡_}
 use Prim.Native.Nat.{ℕ, _+_, _≤_, _<_}

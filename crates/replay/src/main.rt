@@ -1,5 +1,5 @@
-// Performs a call script (docs/call-script.md) on the proved library, and prints what happened, or with the argument `ppm`
-// writes the panel's picture. What a call does is for the library to prove; here every function is proved safe, and to end.
+// Performs a call script (docs/call-script.md) with the proved library and prints what happened, or with the argument `ppm` writes
+// the panel's picture. The library's contracts say what a call does; the functions of this program are proved to be safe and to end.
 mod answer;
 mod object;
 mod session;
@@ -10,10 +10,10 @@ use harness::LONGEST;
 use script::Header;
 use script::HeaderRead;
 
-// The longest panel memory that is served.
+// The longest panel memory that the program has room for.
 const MOST_PANEL: usize = 1_048_576;
 
-// The longest store that is served.
+// The longest store that the program has room for.
 const MOST_STORE: usize = 4_194_304;
 
 // Reads the script, and performs it.

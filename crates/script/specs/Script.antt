@@ -40,7 +40,7 @@ unitsIn s p zero = []
 unitsIn s p (suc n) = be16 s p ∷ unitsIn s (p + 2) n
 
 -- The call of byte k, whose arguments start at p: 32 bits each. A background mode is 0 or 1, a panel fill has no high bit set,
--- and a text's number of units, the last of its arguments, is at most 70,000; its units stand behind them.
+-- and a text's number of units, the last of its arguments, is at most 70,000; its units follow the arguments.
 unfoldable pub scriptCall : (k : ℕ) → List ℕ → (p : ℕ) → CallRead
 scriptCall k s p =
     cond (eqb k 1) (sized s p 0 CreateMemoryDc) (
@@ -67,11 +67,11 @@ scriptCall k s p =
 abbrev pub entryOf : (k : ℕ) → List ℕ → (p : ℕ) → CallRead
 entryOf k s p = cond (eqb k 0x7F) Look (scriptCall k s p)
 
--- what stands at a byte of the script: its end, a look or a call
+-- the entry at a byte of the script: the end, a look or a call
 unfoldable pub callAt : List ℕ → ℕ → CallRead
 callAt s at = cond (ltb at (length s)) (entryOf (getD s at 0) s (at + 1)) End
 
--- a call that was read ends behind its start and within the script
+-- a call that was read ends after its start and within the script
 abbrev pub EndsWithin : List ℕ → ℕ → CallRead → Type 0
 EndsWithin s at End = Unit
 EndsWithin s at Bad = Unit

@@ -35,7 +35,7 @@ pub enum HeaderRead {
 // The byte that asks for the state lines. It has no arguments.
 pub const LOOK: u8 = 0x7F;
 
-// What stands at a byte of a script: the end, neither a call nor a look, a look, or a call with the byte behind it.
+// The entry at a byte of a script: the end, a bad entry, a look, or a call with the place of the byte after it.
 pub enum CallRead {
     End,
     Bad,
@@ -247,7 +247,7 @@ fn read_drawing(s: &[u8], k: u8, p: usize) -> CallRead
     )
 }
 
-// The text whose arguments start at p. Its units stand behind them.
+// The text whose arguments start at p. Its units follow them.
 fn read_text(s: &[u8], p: usize) -> CallRead
     requires { ⌜ p ≤ length (now s) ⌝ }
     ensures { λ r. ⌜ r ≡ scriptCall 15 (now (s .entry)) p ⌝ }
@@ -353,7 +353,7 @@ fn read_entry(s: &[u8], k: u8, p: usize) -> CallRead
     read_arguments(s, k, p)
 }
 
-// What stands at a byte of a script.
+// Returns the entry at a byte of a script.
 pub fn read_call(s: &[u8], at: usize) -> CallRead
     requires { ⌜ at ≤ length (now s) ⌝ }
     ensures { λ r. ⌜ Read (now (s .entry)) at r ⌝ }

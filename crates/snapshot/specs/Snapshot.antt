@@ -29,7 +29,8 @@ rgba8888 = record { wanted = rgbaLength; picture = λ w h m. rgbaOf m (w * h) }
 abbrev pub ppm : Format
 ppm = record { wanted = ppmLength; picture = ppmOf }
 
--- A snapshot was made, or refused: the number; made, the output is the picture of the panel; refused, every byte is as it was.
+-- What a snapshot ensures: it answers the refusal's number, 0 if accepted; accepted, the output is the picture of the panel; refused,
+-- the output is kept.
 pub record Snapped (f : Format) (l panel out : List ℕ) (number : ℕ) (out′ : List ℕ) : Type 0 where
   pub answer : number ≡ snapshotRefusal l (length panel) (length out) (f .wanted)
   pub bytes : out′ ≡ unlessRefused number (f .picture (view l .width) (view l .height) panel) out

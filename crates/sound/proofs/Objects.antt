@@ -16,7 +16,7 @@ use Rattle.numbers.proofs.Seen.{bitmapHeightPlace, part-first, part-second, obj
 use Rattle.sound.specs.Sound.{isMemory, objectFits}
 use Rattle.sound.proofs.Bytes.{area}
 
--- the object whose slot stands from number p on
+-- the object whose slot begins at number p
 abbrev pub objectFrom : List ℕ → ℕ → GdiObject
 objectFrom l p = objectOf (at l (p + kindPlace)) (part l (p + objectPlace) objectSize)
 

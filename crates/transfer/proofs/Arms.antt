@@ -30,7 +30,7 @@ module _ {at src : Place} {m r : Memory} {p w h q x y : ℕ} (e : at ≡ At m p 
   pub side-store : PlacesApart at src → m ≡ Store → r ≡ Store → SameOrApart p w h q x y
   side-store b g l = rw (e, f, g, l) at b
 
--- the blit was made as defined, and the mark told
+-- the blit was made as defined, and the answer says whether a mark is due
 abbrev pub Made : (at src : Place) → Area → (from : Point) → (t c : ℕ) → Memories → (due : Bool) → Memories → Type 0
 Made at src a z t c ms due ms′ = (due ≡ blittedAt at src a z) × (ms′ ≡ transferred at src a z t c ms)
 

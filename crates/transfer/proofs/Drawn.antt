@@ -62,7 +62,7 @@ module _ (W H : ℕ) (a : Area) (f : Point) (SW SH t c : ℕ) where
       (λ i lt e. ap (λ (k : ℕ). applied t c (word src k) (word m i)) (omega arith))
 
   module _ (mem other : List ℕ) (p q : ℕ) (to : Inside (length mem) p W H) (from : Inside (length other) q SW SH) where
-    -- the part comes back
+    -- the part after it was lent
     pub drawn-between : {b : Blit} {due : Bool} {ys : List ℕ} → b ≡ B
         → (due ≡ marks b) × (ys ≡ blitFrom b t c (part other q (q + size SW SH - q)) (part mem p (p + size W H - p)))
         → (due ≡ marks B) × (putMid p (p + size W H - p) mem ys

@@ -61,7 +61,7 @@ module _ (m xs : List ℕ) (p n : ℕ) (len : length xs ≡ n) (fits : p + n ≤
       ∙ getD-drop (p + n) m (k - p - n) 0
       ∙ ap (λ (j : ℕ). getD m j 0) e3
 
-  -- the part comes back as it was put there, and one apart from it is kept
+  -- the part is what was put there, and a part apart from it is kept
   pub part-same : part (withPart m p n xs) p n ≡ xs
   part-same = rw (drop-at (take p m) (xs ++ drop (p + n) m) p front) (take-at xs (drop (p + n) m) n len)
 

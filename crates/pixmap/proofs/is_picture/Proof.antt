@@ -31,7 +31,7 @@ cast-result c = search needs
 cast-result-2 : tie.Need-cast-result-2
 cast-result-2 c = search needs
 
--- both sides are served where the length is looked at
+-- both sides are within the limit where the length is tested
 module _ (c : tie.Then3) where
   abbrev read : tie.After-read-u162
   read = c .before .before .before .before
