@@ -16,14 +16,19 @@ pub struct Advance {
     pub advance: u32,
 }
 
+/// A colour: its 16 bits.
+#[repr(C)]
+#[derive(Clone, Copy)]
+pub struct Rgb565(pub u16);
+
 #[rustfmt::skip]
 #[link(name = "surface_ffi", kind = "static")]
 extern "C" {
-    fn ravinefork_fill_rect(pixels: *mut u8, len: usize, width: u32, height: u32, x: i32, y: i32, w: i32, h: i32, color: u16) -> Drawn;
-    fn ravinefork_fill_rect_rop(pixels: *mut u8, len: usize, width: u32, height: u32, x: i32, y: i32, w: i32, h: i32, pat: u16, rop: u32) -> Drawn;
-    fn ravinefork_stroke_rect(pixels: *mut u8, len: usize, width: u32, height: u32, x: i32, y: i32, w: i32, h: i32, color: u16) -> Drawn;
-    fn ravinefork_blit_from_bytes_rop(pixels: *mut u8, len: usize, width: u32, height: u32, dx: i32, dy: i32, sx: i32, sy: i32, w: i32, h: i32, src: *const u8, src_len: usize, src_w: u32, src_h: u32, rop: u32, pat: u16) -> Drawn;
-    fn ravinefork_draw_str_u16(pixels: *mut u8, len: usize, width: u32, height: u32, x: i32, y: i32, s: *const u16, s_len: usize, color: u16) -> Advance;
+    fn ravinefork_fill_rect(pixels: *mut u8, len: usize, width: u32, height: u32, x: i32, y: i32, w: i32, h: i32, color: Rgb565) -> Drawn;
+    fn ravinefork_fill_rect_rop(pixels: *mut u8, len: usize, width: u32, height: u32, x: i32, y: i32, w: i32, h: i32, pat: Rgb565, rop: u32) -> Drawn;
+    fn ravinefork_stroke_rect(pixels: *mut u8, len: usize, width: u32, height: u32, x: i32, y: i32, w: i32, h: i32, color: Rgb565) -> Drawn;
+    fn ravinefork_blit_from_bytes_rop(pixels: *mut u8, len: usize, width: u32, height: u32, dx: i32, dy: i32, sx: i32, sy: i32, w: i32, h: i32, src: *const u8, src_len: usize, src_w: u32, src_h: u32, rop: u32, pat: Rgb565) -> Drawn;
+    fn ravinefork_draw_str_u16(pixels: *mut u8, len: usize, width: u32, height: u32, x: i32, y: i32, s: *const u16, s_len: usize, color: Rgb565) -> Advance;
 }
 
 /// A surface for the proved operations.
@@ -43,7 +48,7 @@ impl Surface {
         // SAFETY: the pointer and the length are those of `pixels`, which nothing else uses during the
         // call.
         let drawn = unsafe {
-            ravinefork_fill_rect(pixels, len, self.width, self.height, x, y, w, h, color)
+            ravinefork_fill_rect(pixels, len, self.width, self.height, x, y, w, h, Rgb565(color))
         };
         accepted(drawn)
     }
@@ -52,7 +57,7 @@ impl Surface {
         let (pixels, len) = self.lent();
         // SAFETY: as in `fill_rect`.
         let drawn = unsafe {
-            ravinefork_fill_rect_rop(pixels, len, self.width, self.height, x, y, w, h, pat, rop)
+            ravinefork_fill_rect_rop(pixels, len, self.width, self.height, x, y, w, h, Rgb565(pat), rop)
         };
         accepted(drawn)
     }
@@ -61,7 +66,7 @@ impl Surface {
         let (pixels, len) = self.lent();
         // SAFETY: as in `fill_rect`.
         let drawn = unsafe {
-            ravinefork_stroke_rect(pixels, len, self.width, self.height, x, y, w, h, color)
+            ravinefork_stroke_rect(pixels, len, self.width, self.height, x, y, w, h, Rgb565(color))
         };
         accepted(drawn)
     }
@@ -89,7 +94,7 @@ impl Surface {
         let drawn = unsafe {
             ravinefork_blit_from_bytes_rop(
                 pixels, len, width, height, dx, dy, 0, 0, w, h, from, from_len, src_w, src_h, rop,
-                pat,
+                Rgb565(pat),
             )
         };
         accepted(drawn)
@@ -100,7 +105,7 @@ impl Surface {
         let (text, count) = (s.as_ptr(), s.len());
         // SAFETY: as in `fill_rect`, and the other pointer and length are those of `s`.
         let answer = unsafe {
-            ravinefork_draw_str_u16(pixels, len, self.width, self.height, x, y, text, count, color)
+            ravinefork_draw_str_u16(pixels, len, self.width, self.height, x, y, text, count, Rgb565(color))
         };
         assert_eq!(answer.refusal, 0);
         answer.advance as i32

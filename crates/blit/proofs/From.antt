@@ -18,7 +18,8 @@ use Rattle.raster.specs.Raster.{ropped}
 use Rattle.clip_blit.specs.declared.BlitRect.{BlitRect}
 use Rattle.surface.specs.Region.{wordsOf}
 use Rattle.surface.proofs.Rows.{rect, row-fits, off-rows, no-rows}
-use Rattle.blit.specs.Blit.{Blit, clipped, region, sourceWord, rowHeld, blitFrom}
+use Rattle.blit.specs.declared.Blit.{Blit}
+use Rattle.blit.specs.Blit.{clipped, region, sourceWord, rowHeld, blitFrom}
 use Rattle.blit.specs.Inner.{columns, rowAt, sourceRowAt, sourceFor, held, rowFrom, rowsFrom, RoomFrom}
 use Rattle.blit.proofs.Pixels.{Empty, is-empty, across, down, held-same, boxed, none-drawn, taken-same, row-in-source}
 use Rattle.blit.proofs.Rows.{next-row, fits, in-row, taken-row, below}
@@ -118,7 +119,7 @@ module _ (b : Blit) (table pat : ℕ) (src m : List ℕ) (some : 0 < b .width) (
   empty-from is h = painted-none Region New m (λ i lt. not-left (rowHeld b (length src) (i / b .width)) (none-drawn b some i (omega arith) (is-empty b is h)))
 
   -- the room for the loop, and what it leaves
-  pub room-from : {box : BlitRect} → box ≡ clipped b → b .src-w ≤ 4096 → RoomFrom (length m) (b .width) (b .src-w) box
+  pub room-from : {box : BlitRect} → box ≡ clipped b → b .«src_w» ≤ 4096 → RoomFrom (length m) (b .width) (b .«src_w») box
   room-from is h = rw is (record {
     across = record {
       some = some;
@@ -130,18 +131,18 @@ module _ (b : Blit) (table pat : ℕ) (src m : List ℕ) (some : 0 < b .width) (
     narrow = h;
   })
 
-  whole-from : rowsFrom (clipped b) (b .width) (b .src-w) table pat (clipped b .y1) src m ≡ blitFrom b table pat src m
+  whole-from : rowsFrom (clipped b) (b .width) (b .«src_w») table pat (clipped b .y1) src m ≡ blitFrom b table pat src m
   unfolding rowsFrom blitFrom
   whole-from =
-      painted-same (wordsOf (b .width) (λ c r. rect (clipped b .x0) (clipped b .x1) (clipped b .y0) (clipped b .y1) c r && held (clipped b) (b .src-w) (length src) r)) Region (ropped table pat (λ i. word src (sourceFor (clipped b) (b .width) (b .src-w) i)) m) New m
+      painted-same (wordsOf (b .width) (λ c r. rect (clipped b .x0) (clipped b .x1) (clipped b .y0) (clipped b .y1) c r && held (clipped b) (b .«src_w») (length src) r)) Region (ropped table pat (λ i. word src (sourceFor (clipped b) (b .width) (b .«src_w») i)) m) New m
       (λ i lt. rw (boxed b some i (omega arith), held-same b (length src) (i / b .width)))
       (λ i lt t. ap (λ (k : ℕ). applied table pat (word src k) (word m i)) (taken-same b some i (omega arith) (both (wordsOf (b .width) (region b) i) (rowHeld b (length src) (i / b .width)) t .0)))
 
-  pub drawn-from : {box : BlitRect} {t : ℕ} {m′ : List ℕ} → box ≡ clipped b → t ≡ table → m′ ≡ rowsFrom box (b .width) (b .src-w) t pat (box .y1) src m → m′ ≡ blitFrom b table pat src m
+  pub drawn-from : {box : BlitRect} {t : ℕ} {m′ : List ℕ} → box ≡ clipped b → t ≡ table → m′ ≡ rowsFrom box (b .width) (b .«src_w») t pat (box .y1) src m → m′ ≡ blitFrom b table pat src m
   drawn-from is e f = (rw (is, e) at f) ∙ whole-from
 
   -- bytes as long as the source's sides say hold every row
-  pub all-rows-held : length src ≡ 2 * (b .src-w * b .src-h) → blitFrom b table pat src m ≡ painted (wordsOf (b .width) (region b)) New m
+  pub all-rows-held : length src ≡ 2 * (b .«src_w» * b .«src_h») → blitFrom b table pat src m ≡ painted (wordsOf (b .width) (region b)) New m
   unfolding blitFrom
   all-rows-held full = painted-cong Region (wordsOf (b .width) (region b)) New m (λ i lt. by i (omega arith) (wordsOf (b .width) (region b) i) refl)
     where

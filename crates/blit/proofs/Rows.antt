@@ -15,7 +15,11 @@ use Rattle.surface.proofs.Rows.{rect, run-row, run-column, row-below, row-above
 use Rattle.blit.specs.Inner.{columns, rowAt, sourceRowAt, sourceFor, Across}
 
 -- One row more, drawn in a memory that is painted at Old: its own words are not painted yet, and what it takes is what Word says.
-pub next-row : (table pat : ℕ) (Word : ℕ → ℕ) (Read : List ℕ → ℕ → ℕ) (Old Row All : ℕ → Bool) (m₀ : List ℕ) {m m′ : List ℕ} → ((i : ℕ) → All i ≡ (Row i || Old i)) → ((i : ℕ) → Row i ≡ true → (2 * i + 1 < length m₀) × (Old i ≡ false)) → ((i : ℕ) → Row i ≡ true → Read (painted Old (ropped table pat Word m₀) m₀) i ≡ Word i) → m ≡ painted Old (ropped table pat Word m₀) m₀ → m′ ≡ painted Row (ropped table pat (Read m) m) m → m′ ≡ painted All (ropped table pat Word m₀) m₀
+pub next-row : (table pat : ℕ) (Word : ℕ → ℕ) (Read : List ℕ → ℕ → ℕ) (Old Row All : ℕ → Bool) (m₀ : List ℕ) {m m′ : List ℕ}
+    → ((i : ℕ) → All i ≡ (Row i || Old i)) → ((i : ℕ) → Row i ≡ true → (2 * i + 1 < length m₀) × (Old i ≡ false))
+    → ((i : ℕ) → Row i ≡ true → Read (painted Old (ropped table pat Word m₀) m₀) i ≡ Word i)
+    → m ≡ painted Old (ropped table pat Word m₀) m₀ → m′ ≡ painted Row (ropped table pat (Read m) m) m
+    → m′ ≡ painted All (ropped table pat Word m₀) m₀
 next-row table pat Word Read Old Row All m₀ {m} more own takes e g =
     g
     ∙ ap (λ (l : List ℕ). painted Row (ropped table pat (Read l) l) l) e

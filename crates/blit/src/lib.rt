@@ -1,12 +1,30 @@
 // Blits: a box of a source drawn on a surface under a raster code. The source is other bytes.
+ghost use mathlib.Core.Bool.{not};
 ghost use mathlib.Core.Path.{_≡_};
 ghost use Prim.Native.Nat.{_+_, _-_, _≤_, _<_};
 ghost use lib.ListN.{length};
 ghost use Rattle.rop3.specs.Rop3.{tableOf};
-ghost use Rattle.surface.specs.Refusal.{refusalFrom, drew, unlessRefused};
+ghost use Rattle.surface.specs.Region.{nonempty};
 ghost use Rattle.surface.proofs.Accepted.{InOrder};
-ghost use Rattle.blit.specs.Blit.{blitOf, marks, blitFrom};
+ghost use Rattle.blit.specs.Blit.{clipped, marks, blitFrom, BlitBytes};
 ghost use Rattle.blit.specs.Inner.{rowFrom, rowsFrom, RoomFrom};
+use clip_blit::BlitRect;
+use color::Rgb565;
+use surface::Drawn;
+
+// A blit's numbers: the destination's sides, where to, where from, how much, and the source's sides.
+pub struct Blit {
+    pub width: u32,
+    pub height: u32,
+    pub dx: i32,
+    pub dy: i32,
+    pub sx: i32,
+    pub sy: i32,
+    pub w: i32,
+    pub h: i32,
+    pub src_w: u32,
+    pub src_h: u32,
+}
 
 // The w by h pixels at sx, sy of src, drawn at dx, dy. A row whose part of src passes its end is skipped.
 pub fn blit_from_bytes_rop(
@@ -23,15 +41,13 @@ pub fn blit_from_bytes_rop(
     src_w: u32,
     src_h: u32,
     rop: u32,
-    pat: color::Rgb565,
-) -> surface::Drawn
-    ensures { λ r. ⌜ r ≡ drew (refusalFrom width height «src_w» «src_h» (length (now (pixels .entry)))) (marks (blitOf width height dx dy sx sy w h «src_w» «src_h»)) ⌝ }
-    ensures bytes { λ _. ⌜ now (pixels .exit) ≡ unlessRefused (refusalFrom width height «src_w» «src_h» (length (now (pixels .entry)))) (blitFrom (blitOf width height dx dy sx sy w h «src_w» «src_h») (tableOf rop) (pat .0) (now (src .entry)) (now (pixels .entry))) (now (pixels .entry)) ⌝ }
+    pat: Rgb565,
+) -> Drawn
+    ensures { λ r. ⌜ BlitBytes dx dy sx sy w h (now (src .entry)) «src_w» «src_h» rop (pat .0) width height (now (pixels .entry)) r (now (pixels .exit)) ⌝ }
 {
     let number = surface::refusal_from(width, height, src_w, src_h, pixels.len());
     if number == 0 {
-        let marked = blit_from(
-            pixels,
+        let b = Blit {
             width,
             height,
             dx,
@@ -40,50 +56,58 @@ pub fn blit_from_bytes_rop(
             sy,
             w,
             h,
-            src,
             src_w,
             src_h,
-            rop,
-            pat,
-        );
-        return surface::Drawn { refusal: 0, marked };
+        };
+        let marked = blit_from(pixels, b, src, rop, pat);
+        return Drawn { refusal: 0, marked };
     }
-    surface::Drawn {
+    Drawn {
         refusal: number,
         marked: false,
     }
 }
 
-// The same for a surface and sides that are in order. Whether a mark is due.
-pub fn blit_from(
-    pixels: &mut [u8],
-    width: u32,
-    height: u32,
-    dx: i32,
-    dy: i32,
-    sx: i32,
-    sy: i32,
-    w: i32,
-    h: i32,
-    src: &[u8],
-    src_w: u32,
-    src_h: u32,
-    rop: u32,
-    pat: color::Rgb565,
-) -> bool
-    requires { ⌜ InOrder width height (length (now pixels)) × («src_w» ≤ 4096) ⌝ }
-    ensures { λ r. ⌜ r ≡ marks (blitOf width height dx dy sx sy w h «src_w» «src_h») ⌝ }
-    ensures bytes { λ _. ⌜ now (pixels .exit) ≡ blitFrom (blitOf width height dx dy sx sy w h «src_w» «src_h») (tableOf rop) (pat .0) (now (src .entry)) (now (pixels .entry)) ⌝ }
+// The same on a surface that is in order. Whether a mark is due.
+pub fn blit_from(pixels: &mut [u8], b: Blit, src: &[u8], rop: u32, pat: Rgb565) -> bool
+    requires { ⌜ InOrder (b .width) (b .height) (length (now pixels)) × (b .«src_w» ≤ 4096) ⌝ }
+    ensures { λ r. ⌜ r ≡ marks b ⌝ }
+    ensures bytes { λ _. ⌜ now (pixels .exit) ≡ blitFrom b (tableOf rop) (pat .0) (now (src .entry)) (now (pixels .entry)) ⌝ }
 {
-    let r = clip_blit::clip_blit(dx, dy, sx, sy, w, h, width, height, src_w, src_h);
-    if r.x1 <= r.x0 {
+    let r = clip_of(b);
+    if is_empty(r) {
         return false;
     }
-    if r.y1 <= r.y0 {
-        return false;
-    }
-    blit_rows(pixels, width, src, src_w, r, rop3::table(rop), pat.0);
+    blit_rows(pixels, b.width, src, b.src_w, r, rop3::table(rop), pat.0);
     true
+}
+
+// The part of a blit that is drawn.
+pub fn clip_of(b: Blit) -> BlitRect
+    ensures { λ r. ⌜ r ≡ clipped b ⌝ }
+{
+    clip_blit::clip_blit(
+        b.dx,
+        b.dy,
+        b.sx,
+        b.sy,
+        b.w,
+        b.h,
+        b.width,
+        b.height,
+        b.src_w,
+        b.src_h,
+    )
+}
+
+// Whether a box has no pixel.
+pub fn is_empty(r: BlitRect) -> bool
+    ensures { λ e. ⌜ e ≡ not (nonempty (r .x0) (r .x1) (r .y0) (r .y1)) ⌝ }
+{
+    if r.x1 <= r.x0 {
+        return true;
+    }
+    r.y1 <= r.y0
 }
 
 // The rows of a box from other bytes.
@@ -92,7 +116,7 @@ fn blit_rows(
     width: u32,
     src: &[u8],
     src_w: u32,
-    r: clip_blit::BlitRect,
+    r: BlitRect,
     table: u8,
     pat: u16,
 )
@@ -110,7 +134,7 @@ fn blit_row(
     width: u32,
     src: &[u8],
     src_w: u32,
-    r: clip_blit::BlitRect,
+    r: BlitRect,
     y: u32,
     table: u8,
     pat: u16,
@@ -128,7 +152,7 @@ fn blit_row(
 }
 
 // The row of the source that row y of a box is taken from.
-pub fn source_row(r: clip_blit::BlitRect, y: u32) -> usize
+pub fn source_row(r: BlitRect, y: u32) -> usize
     requires { ⌜ r .y0 ≤ y ⌝ }
     ensures { λ row. ⌜ row ≡ r .«src_y0» + (y - r .y0) ⌝ }
 {

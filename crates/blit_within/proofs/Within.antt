@@ -21,7 +21,8 @@ use Rattle.raster.specs.Raster.{ropped}
 use Rattle.clip_blit.specs.declared.BlitRect.{BlitRect}
 use Rattle.surface.specs.Region.{wordsOf}
 use Rattle.surface.proofs.Rows.{rect, run-row, row-fits, off-rows, no-rows}
-use Rattle.blit.specs.Blit.{Blit, clipped, region, sourceWord}
+use Rattle.blit.specs.declared.Blit.{Blit}
+use Rattle.blit.specs.Blit.{clipped, region, sourceWord}
 use Rattle.blit.specs.Inner.{columns, rowAt, sourceRowAt, sourceFor}
 use Rattle.blit_within.specs.Inner.{blitWithin, Placed, rowWithin, rowsAt, rowsWithin, RoomWithin}
 use Rattle.blit.proofs.Pixels.{Empty, is-empty, across, down, boxed, none-drawn, taken-same}
@@ -39,7 +40,9 @@ placed-more at d n i old all e = by (decLt i at)
     by (no l) = rw (le-leb at i (omega arith), placed-row at d n i (omega arith)) e
 
 -- a row, as the code draws it from the source row q that it has found
-pub row-drawn : (box : BlitRect) (at W src-at SW table pat y : ℕ) (m : List ℕ) {q : ℕ} {m′ : List ℕ} → q ≡ box .«src_y0» + (y - box .y0) → m′ ≡ painted (between (at + rowAt box W y) (at + rowAt box W y + columns box)) (ropped table pat (λ i. word m (src-at + (q * SW + box .«src_x0») + (i - (at + rowAt box W y)))) m) m → m′ ≡ rowWithin box at W src-at SW table pat y m
+pub row-drawn : (box : BlitRect) (at W src-at SW table pat y : ℕ) (m : List ℕ) {q : ℕ} {m′ : List ℕ} → q ≡ box .«src_y0» + (y - box .y0)
+    → m′ ≡ painted (between (at + rowAt box W y) (at + rowAt box W y + columns box)) (ropped table pat (λ i. word m (src-at + (q * SW + box .«src_x0») + (i - (at + rowAt box W y)))) m) m
+    → m′ ≡ rowWithin box at W src-at SW table pat y m
 unfolding rowWithin
 row-drawn box at W src-at SW table pat y m is e = e ∙ rw is
 
@@ -98,7 +101,10 @@ module _ (box : BlitRect) (at W src-at SW table pat : ℕ) (m₀ : List ℕ) (ro
         by (inr (inr e)) = rw (lt-leb at (source + k) (omega (arith, end-source y from to)))
 
     -- one row more
-    next-within : (top′ bottom′ : ℕ) {m m′ : List ℕ} → ((i : ℕ) → wordsOf W (rect (box .x0) (box .x1) top′ bottom′) i ≡ (between (rowAt box W y) (rowAt box W y + columns box) i || wordsOf W (rect (box .x0) (box .x1) top bottom) i)) → (top ≤ y → y < bottom → ⊥) → (top ≤ source-row → source-row < bottom → ⊥) → m ≡ rowsWithin box at W src-at SW table pat top bottom m₀ → m′ ≡ rowWithin box at W src-at SW table pat y m → m′ ≡ rowsWithin box at W src-at SW table pat top′ bottom′ m₀
+    next-within : (top′ bottom′ : ℕ) {m m′ : List ℕ}
+        → ((i : ℕ) → wordsOf W (rect (box .x0) (box .x1) top′ bottom′) i ≡ (between (rowAt box W y) (rowAt box W y + columns box) i || wordsOf W (rect (box .x0) (box .x1) top bottom) i))
+        → (top ≤ y → y < bottom → ⊥) → (top ≤ source-row → source-row < bottom → ⊥)
+        → m ≡ rowsWithin box at W src-at SW table pat top bottom m₀ → m′ ≡ rowWithin box at W src-at SW table pat y m → m′ ≡ rowsWithin box at W src-at SW table pat top′ bottom′ m₀
     unfolding rowsWithin rowWithin
     next-within top′ bottom′ more own off =
         next-row table pat Word (λ l i. word l (source + (i - d))) (rowsAt box at W top bottom) Run (rowsAt box at W top′ bottom′) m₀
@@ -157,10 +163,10 @@ module _ (b : Blit) (at src-at table pat : ℕ) (m : List ℕ) (P : Placed (leng
   rows-end : clipped b .y1 * b .width ≤ b .width * b .height
   rows-end = omega (arith, mul-le-mul-right (b .width) (down b .within))
 
-  source-end : (clipped b .«src_y0» + (clipped b .y1 - clipped b .y0)) * b .src-w ≤ b .src-w * b .src-h
-  source-end = omega (arith, mul-le-mul-right (b .src-w) (down b .source))
+  source-end : (clipped b .«src_y0» + (clipped b .y1 - clipped b .y0)) * b .«src_w» ≤ b .«src_w» * b .«src_h»
+  source-end = omega (arith, mul-le-mul-right (b .«src_w») (down b .source))
 
-  pub room-within : {box : BlitRect} → box ≡ clipped b → RoomWithin (length m) at (b .width) src-at (b .src-w) box
+  pub room-within : {box : BlitRect} → box ≡ clipped b → RoomWithin (length m) at (b .width) src-at (b .«src_w») box
   room-within is = rw is (record {
     across = record {
       some = P .some;
@@ -175,7 +181,7 @@ module _ (b : Blit) (at src-at table pat : ℕ) (m : List ℕ) (P : Placed (leng
     apart = by (P .apart);
   })
     where
-      by : ((at ≡ src-at) × (b .width ≡ b .src-w)) ⊎ ((end ≤ src-at) ⊎ (src-at + b .src-w * b .src-h ≤ at)) → ((at ≡ src-at) × (b .width ≡ b .src-w)) ⊎ ((at + clipped b .y1 * b .width ≤ src-at) ⊎ (src-at + (clipped b .«src_y0» + (clipped b .y1 - clipped b .y0)) * b .src-w ≤ at))
+      by : ((at ≡ src-at) × (b .width ≡ b .«src_w»)) ⊎ ((end ≤ src-at) ⊎ (src-at + b .«src_w» * b .«src_h» ≤ at)) → ((at ≡ src-at) × (b .width ≡ b .«src_w»)) ⊎ ((at + clipped b .y1 * b .width ≤ src-at) ⊎ (src-at + (clipped b .«src_y0» + (clipped b .y1 - clipped b .y0)) * b .«src_w» ≤ at))
       by (inl e) = inl e
       by (inr (inl e)) = inr (inl (omega (arith, rows-end)))
       by (inr (inr e)) = inr (inr (omega (arith, source-end)))
@@ -192,14 +198,14 @@ module _ (b : Blit) (at src-at table pat : ℕ) (m : List ℕ) (P : Placed (leng
           (λ u v. let lt : i - at < clipped b .y1 * b .width = div-lt-iff-lt-mul (P .some) .0 v in omega (arith, rows-end)))
           ∙ sym (not-left (wordsOf (b .width) (region b) (i - at)) e)
 
-  whole-within : rowsWithin (clipped b) at (b .width) src-at (b .src-w) table pat (clipped b .y0) (clipped b .y1) m ≡ blitWithin b at src-at table pat m
+  whole-within : rowsWithin (clipped b) at (b .width) src-at (b .«src_w») table pat (clipped b .y0) (clipped b .y1) m ≡ blitWithin b at src-at table pat m
   unfolding rowsWithin blitWithin
   whole-within =
-      painted-same (rowsAt (clipped b) at (b .width) (clipped b .y0) (clipped b .y1)) Region (ropped table pat (λ i. word m (src-at + sourceFor (clipped b) (b .width) (b .src-w) (i - at))) m) New m
+      painted-same (rowsAt (clipped b) at (b .width) (clipped b .y0) (clipped b .y1)) Region (ropped table pat (λ i. word m (src-at + sourceFor (clipped b) (b .width) (b .«src_w») (i - at))) m) New m
       (λ i lt. placed i)
       (λ i lt t. let d = both (between at end i) (wordsOf (b .width) (region b) (i - at)) t in
       let h = bounds at end i (d .0) in
       ap (λ (k : ℕ). applied table pat (word m (src-at + k)) (word m i)) (taken-same b (P .some) (i - at) (omega arith) (d .1)))
 
-  pub drawn-within : {box : BlitRect} {t : ℕ} {m′ : List ℕ} → box ≡ clipped b → t ≡ table → m′ ≡ rowsWithin box at (b .width) src-at (b .src-w) t pat (box .y0) (box .y1) m → m′ ≡ blitWithin b at src-at table pat m
+  pub drawn-within : {box : BlitRect} {t : ℕ} {m′ : List ℕ} → box ≡ clipped b → t ≡ table → m′ ≡ rowsWithin box at (b .width) src-at (b .«src_w») t pat (box .y0) (box .y1) m → m′ ≡ blitWithin b at src-at table pat m
   drawn-within is e f = (rw (is, e) at f) ∙ whole-within

@@ -12,7 +12,8 @@ use Rattle.raster.specs.Raster.{ropped}
 use Rattle.clip_blit.specs.declared.BlitRect.{BlitRect}
 use Rattle.surface.specs.Region.{wordsOf}
 use Rattle.surface.proofs.Rows.{rect}
-use Rattle.blit.specs.Blit.{Blit, region, sourceWord}
+use Rattle.blit.specs.declared.Blit.{Blit}
+use Rattle.blit.specs.Blit.{region, sourceWord}
 use Rattle.blit.specs.Inner.{columns, rowAt, sourceRowAt, sourceFor, Across}
 
 -- memory m after a blit from its surface at word src-at to its surface at word at: source pixels are those before the call
@@ -25,10 +26,10 @@ blitWithin b at src-at table pat m =
 pub record Placed (len at src-at : ℕ) (b : Blit) : Type 0 where
   pub some : 0 < b .width
   pub narrow : b .width ≤ 4096
-  pub some-source : 0 < b .src-w
+  pub some-source : 0 < b .«src_w»
   pub room : 2 * (at + b .width * b .height) ≤ len
-  pub room-source : 2 * (src-at + b .src-w * b .src-h) ≤ len
-  pub apart : ((at ≡ src-at) × (b .width ≡ b .src-w)) ⊎ ((at + b .width * b .height ≤ src-at) ⊎ (src-at + b .src-w * b .src-h ≤ at))
+  pub room-source : 2 * (src-at + b .«src_w» * b .«src_h») ≤ len
+  pub apart : ((at ≡ src-at) × (b .width ≡ b .«src_w»)) ⊎ ((at + b .width * b .height ≤ src-at) ⊎ (src-at + b .«src_w» * b .«src_h» ≤ at))
 
 -- memory m with row y drawn from its own words, of a surface at word src-at to one at word at
 unfoldable pub rowWithin : BlitRect → (at width src-at src-w table pat y : ℕ) → (m : List ℕ) → List ℕ

@@ -4,16 +4,19 @@ use mathlib.Core.List.{List}
 use mathlib.Core.Path.{_≡_, refl, _∙_, subst}
 use Prim.Native.Nat.{ℕ, _≤_, _<_}
 use lib.Dec.{ltb}
+use lib.ListN.{length}
 use mir.Syntax.{w32}
 use mir.Val.{SFits}
 use Rattle.arithmetic.proofs.Machine.{held32, stored32}
 use Rattle.words.specs.Words.{painted}
-use Rattle.rop3.specs.Rop3.{tableOf}
 use Rattle.raster.specs.Raster.{ropped}
 use Rattle.raster.proofs.Plain.{pattern-ropped}
 use Rattle.surface.specs.Region.{wordsOf}
-use Rattle.fill.specs.Fill.{filledRop, fillMarks}
-use Rattle.outline.specs.Outline.{outlined, outlineMarks}
+use Rattle.surface.specs.declared.Drawn as A
+use Rattle.surface.proofs.Accepted.{InOrder, order-accepted}
+use Rattle.surface.proofs.Answers.{done-drawn}
+use Rattle.fill.specs.Fill.{FillRectRop}
+use Rattle.outline.specs.Outline.{StrokeRect}
 use Rattle.text.specs.Ink.{textInk}
 use Rattle.plan.specs.declared.Area.{Area}
 use Rattle.plan.specs.declared.Point.{Point}
@@ -30,22 +33,20 @@ abbrev pub Drawn : Drawing → (units : List ℕ) → (color width height : ℕ)
 Drawn g us c width height m t m′ = (t ≡ marksOf g width height) × (m′ ≡ drawnOf g us c width m)
 
 module _ {g : Drawing} (us : List ℕ) (c width height : ℕ) (m : List ℕ) {m′ : List ℕ} where
-  module _ {t : Bool} {a : Area} (x : SFits w32 (a .x)) (y : SFits w32 (a .y)) (w : SFits w32 (a .w)) (h : SFits w32 (a .h)) where
-    pub as-fill : {rop : ℕ} → g ≡ Fill a rop → t ≡ fillMarks width height (held32 (a .x)) (held32 (a .y)) (held32 (a .w)) (held32 (a .h))
-        → m′ ≡ filledRop width (held32 (a .x)) (held32 (a .y)) (held32 (a .w)) (held32 (a .h)) (tableOf rop) c m
-        → Drawn g us c width height m t m′
-    as-fill e p q = (
-      p ∙ rw (stored32 (a .x) x, stored32 (a .y) y, stored32 (a .w) w, stored32 (a .h) h, e),
-      q ∙ rw (stored32 (a .x) x, stored32 (a .y) y, stored32 (a .w) w, stored32 (a .h) h, e),
-    )
+  module _ {d : A.Drawn} {a : Area} (o : InOrder width height (length m)) (x : SFits w32 (a .x)) (y : SFits w32 (a .y)) (w : SFits w32 (a .w)) (h : SFits w32 (a .h)) where
+    pub as-fill : {rop : ℕ} → g ≡ Fill a rop → FillRectRop (held32 (a .x)) (held32 (a .y)) (held32 (a .w)) (held32 (a .h)) c rop width height m d m′ → Drawn g us c width height m (d .marked) m′
+    as-fill e f =
+        let (p, q) = done-drawn (order-accepted width height (length m) o) f in (
+          p ∙ rw (stored32 (a .x) x, stored32 (a .y) y, stored32 (a .w) w, stored32 (a .h) h, e),
+          q ∙ rw (stored32 (a .x) x, stored32 (a .y) y, stored32 (a .w) w, stored32 (a .h) h, e),
+        )
 
-    pub as-outline : c < 65536 → g ≡ Outline a → t ≡ outlineMarks (held32 (a .w)) (held32 (a .h))
-        → m′ ≡ outlined width (held32 (a .x)) (held32 (a .y)) (held32 (a .w)) (held32 (a .h)) c m
-        → Drawn g us c width height m t m′
-    as-outline small e p q = (
-      p ∙ rw (stored32 (a .w) w, stored32 (a .h) h, e),
-      q ∙ solid _ c m small ∙ rw (stored32 (a .x) x, stored32 (a .y) y, stored32 (a .w) w, stored32 (a .h) h, e),
-    )
+    pub as-outline : c < 65536 → g ≡ Outline a → StrokeRect (held32 (a .x)) (held32 (a .y)) (held32 (a .w)) (held32 (a .h)) c width height m d m′ → Drawn g us c width height m (d .marked) m′
+    as-outline small e f =
+        let (p, q) = done-drawn (order-accepted width height (length m) o) f in (
+          p ∙ rw (stored32 (a .w) w, stored32 (a .h) h, e),
+          q ∙ solid _ c m small ∙ rw (stored32 (a .x) x, stored32 (a .y) y, stored32 (a .w) w, stored32 (a .h) h, e),
+        )
 
   pub as-text : {p : Point} {n : ℕ} → SFits w32 (p .x) → SFits w32 (p .y) → c < 65536 → g ≡ Text p n
       → m′ ≡ painted (wordsOf width (textInk us n (held32 (p .x)) (held32 (p .y)))) (λ _. c) m

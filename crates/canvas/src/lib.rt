@@ -65,7 +65,7 @@ fn draw_on(
 {
     match drawing {
         Drawing::Fill { area, rop } => {
-            fill_rop::fill_box_rop(
+            let d = fill::fill_rect_rop(
                 pixels,
                 width,
                 height,
@@ -75,10 +75,12 @@ fn draw_on(
                 area.h,
                 color,
                 rop,
-            )
+            );
+            d.marked
         }
-        Drawing::Outline(area) => {
-            outline::stroke_box(pixels, width, height, area.x, area.y, area.w, area.h, color)
+        Drawing::Outline(a) => {
+            let d = outline::stroke_rect(pixels, width, height, a.x, a.y, a.w, a.h, color);
+            d.marked
         }
         Drawing::Text { at, count } => {
             text::draw_units(pixels, width, height, at.x, at.y, units, count, color);

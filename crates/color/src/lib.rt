@@ -7,6 +7,7 @@ ghost use Rattle.color.specs.Color.{red, green, blue, packedChannels, pa
 pub struct Colorref(pub u32);
 
 // RRRRRGGGGGGBBBBB.
+#[repr(C)]
 pub struct Rgb565(pub u16);
 
 // 0RRRRRGGGGGBBBBB.

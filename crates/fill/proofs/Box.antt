@@ -1,8 +1,8 @@
--- From the clipped box that the code holds to the box of the definitions. Assumes nothing.
-use mathlib.Core.Path.{_≡_, sym, _∙_, ap}
-use mathlib.Core.Bool.{true, false, _&&_}
+-- From the rectangle that the code holds to the box of the definitions, and from PATCOPY's table to one colour. Assumes nothing.
+use mathlib.Core.Path.{_≡_, refl, sym, _∙_, ap}
+use mathlib.Core.Bool.{Bool, true, false}
 use mathlib.Core.List.{List}
-use Prim.Native.Nat.{ℕ, _+_, _-_, _*_, _≤_, _<_}
+use Prim.Native.Nat.{ℕ, _*_, _≤_, _<_}
 use native.Mathlib.Nat.{mul-le-mul-right}
 use native.Mathlib.Omega.{arith}
 use lib.Dec.{ltb}
@@ -10,48 +10,50 @@ use lib.IntN.{ℤ}
 use lib.ListN.{length}
 use borrow.Author.Tests.{lt-ltb, le-ltb}
 use Rattle.arithmetic.proofs.Test.{together, not-left, not-right}
-use Rattle.words.specs.Words.{painted}
 use Rattle.words.proofs.Painted.{painted-none, painted-cong}
+use Rattle.raster.specs.Raster.{ropped}
+use Rattle.raster.proofs.Plain.{pattern-ropped}
 use Rattle.clip.specs.declared.Rect.{Rect}
 use Rattle.clip.specs.Clip.{clippedRect}
 use Rattle.clip.proofs.Clip.{rect-covers, rect-within}
-use Rattle.surface.specs.Region.{wordsOf, box}
+use Rattle.surface.specs.declared.Drawn.{Drawn}
+use Rattle.surface.specs.Region.{wordsOf, box, nonempty}
+use Rattle.surface.proofs.Accepted.{InOrder}
 use Rattle.surface.proofs.Rows.{rect, column-lt, row-lt, no-rows, no-columns}
-use Rattle.fill.specs.Fill.{fillMarks}
+use Rattle.fill.specs.Fill.{filled, filledRop, fillMarks, FillRect, FillRectRop}
+use Rattle.fill.specs.Inner.{roppedRect}
 
-module _ (width height : ℕ) (x y w h : ℤ) {r : Rect} (is : r ≡ clippedRect x y w h width height) where
-  -- when a mark is due
-  pub marked : r .x0 < r .x1 → r .y0 < r .y1 → true ≡ fillMarks width height x y w h
-  marked p q = sym (ap (λ (b : Rect). ltb (b .x0) (b .x1) && ltb (b .y0) (b .y1)) (sym is) ∙ together (lt-ltb (r .x0) (r .x1) p) (lt-ltb (r .y0) (r .y1) q))
+-- a rectangle with a pixel, and the two without one
+module _ (x0 x1 y0 y1 : ℕ) where
+  pub some-pixels : x0 < x1 → y0 < y1 → true ≡ nonempty x0 x1 y0 y1
+  some-pixels p q = sym (together (lt-ltb x0 x1 p) (lt-ltb y0 y1 q))
 
-  pub no-columns-marked : r .x1 ≤ r .x0 → false ≡ fillMarks width height x y w h
-  no-columns-marked p = sym (ap (λ (b : Rect). ltb (b .x0) (b .x1) && ltb (b .y0) (b .y1)) (sym is) ∙ not-left (ltb (r .y0) (r .y1)) (le-ltb (r .x0) (r .x1) p))
+  module _ (W table pat : ℕ) (m : List ℕ) where
+    abbrev Untouched : Type 0
+    Untouched = (false ≡ nonempty x0 x1 y0 y1) × (m ≡ roppedRect W x0 x1 y0 y1 table pat m)
 
-  pub no-rows-marked : r .y1 ≤ r .y0 → false ≡ fillMarks width height x y w h
-  no-rows-marked p = sym (ap (λ (b : Rect). ltb (b .x0) (b .x1) && ltb (b .y0) (b .y1)) (sym is) ∙ not-right (ltb (r .x0) (r .x1)) (le-ltb (r .y0) (r .y1) p))
+    pub without-columns : x1 ≤ x0 → Untouched
+    without-columns p = (sym (not-left (ltb y0 y1) (le-ltb x0 x1 p)), painted-none (wordsOf W (rect x0 x1 y0 y1)) (ropped table pat (λ _. 0) m) m (λ i lt. no-columns W x0 x1 y0 y1 i p))
 
-  -- the clipped box lies on the surface
-  pub columns-fit : (r .x0 ≤ width) × (r .x1 ≤ width)
-  columns-fit = rw is (rect-within x y w h width height .0)
+    pub without-rows : y1 ≤ y0 → Untouched
+    without-rows p = (sym (not-right (ltb x0 x1) (le-ltb y0 y1 p)), painted-none (wordsOf W (rect x0 x1 y0 y1)) (ropped table pat (λ _. 0) m) m (λ i lt. no-rows W x0 x1 y0 y1 i p))
 
-  pub rows-fit : (m : List ℕ) → length m ≡ 2 * (width * height) → 2 * (r .y1 * width) ≤ length m
-  rows-fit m long =
+-- the clipped box lies on a surface that is in order, and has the pixels of the box
+module _ (x y w h : ℤ) (table pat width height : ℕ) (m : List ℕ) (o : InOrder width height (length m)) {r : Rect} (is : r ≡ clippedRect x y w h width height) where
+  pub box-fits : (0 < width) × ((r .x1 ≤ width) × (2 * (r .y1 * width) ≤ length m))
+  box-fits =
       let k : r .y1 ≤ height = rw is (rect-within x y w h width height .1 .1) in
-      omega (arith, mul-le-mul-right width k)
+      (o .some, (rw is (rect-within x y w h width height .0 .1), omega (arith, o .long, mul-le-mul-right width k)))
 
-  -- and has the pixels of the box
-  module _ (v : ℕ → ℕ) (m : List ℕ) (some : 0 < width) (long : length m ≡ 2 * (width * height)) where
-    same-pixels : (i : ℕ) → 2 * i < length m → wordsOf width (rect (r .x0) (r .x1) (r .y0) (r .y1)) i ≡ wordsOf width (box x y w h) i
-    same-pixels i lt = rw is (rect-covers x y w h width height (column-lt width height i some) (row-lt width height i some (omega arith)))
+  pub box-marked : nonempty (r .x0) (r .x1) (r .y0) (r .y1) ≡ fillMarks width height x y w h
+  box-marked = ap (λ (b : Rect). nonempty (b .x0) (b .x1) (b .y0) (b .y1)) is
 
-    pub no-columns-drawn : r .x1 ≤ r .x0 → m ≡ painted (wordsOf width (box x y w h)) v m
-    no-columns-drawn p = painted-none (wordsOf width (box x y w h)) v m (λ i lt. sym (same-pixels i lt) ∙ no-columns width (r .x0) (r .x1) (r .y0) (r .y1) i p)
+  pub box-filled : roppedRect width (r .x0) (r .x1) (r .y0) (r .y1) table pat m ≡ filledRop width x y w h table pat m
+  box-filled =
+      painted-cong (wordsOf width (rect (r .x0) (r .x1) (r .y0) (r .y1))) (wordsOf width (box x y w h)) (ropped table pat (λ _. 0) m) m
+      (λ i lt. rw is (rect-covers x y w h width height (column-lt width height i (o .some)) (row-lt width height i (o .some) (omega (arith, o .long)))))
 
-    pub no-rows-drawn : r .y1 ≤ r .y0 → m ≡ painted (wordsOf width (box x y w h)) v m
-    no-rows-drawn p = painted-none (wordsOf width (box x y w h)) v m (λ i lt. sym (same-pixels i lt) ∙ no-rows width (r .x0) (r .x1) (r .y0) (r .y1) i p)
-
-    pub box-drawn : r .x0 < r .x1 → painted (wordsOf width (rect (r .x0) (r .x0 + (r .x1 - r .x0)) (r .y0) (r .y1))) v m ≡ painted (wordsOf width (box x y w h)) v m
-    box-drawn p =
-        let e : r .x0 + (r .x1 - r .x0) ≡ r .x1 = omega arith in
-        ap (λ (x1 : ℕ). painted (wordsOf width (rect (r .x0) x1 (r .y0) (r .y1))) v m) e
-        ∙ painted-cong (wordsOf width (rect (r .x0) (r .x1) (r .y0) (r .y1))) (wordsOf width (box x y w h)) v m same-pixels
+-- PATCOPY's table gives the pattern
+pub patcopy-filled : (x y w h : ℤ) (color width height : ℕ) (m : List ℕ) {r : Drawn} {m′ : List ℕ} → color < 65536 → FillRectRop x y w h color 0xF00021 width height m r m′ → FillRect x y w h color width height m r m′
+patcopy-filled x y w h color width height m small d =
+    record { answer = d .answer; bytes = d .bytes ∙ rw (sym (pattern-ropped 0xF0 (wordsOf width (box x y w h)) color (λ _. 0) m refl small)) }

@@ -1,15 +1,15 @@
-// Fills of a box in one colour.
+// Fills of a box: in one colour, and under a raster code.
 ghost use mathlib.Core.Path.{_≡_};
 ghost use Prim.Native.Nat.{_+_, _*_, _≤_, _<_};
 ghost use lib.ListN.{length};
-ghost use Rattle.words.specs.Words.{painted};
-ghost use Rattle.surface.specs.Region.{wordsOf};
-ghost use Rattle.surface.specs.Refusal.{refusal, drew, unlessRefused};
-ghost use Rattle.surface.proofs.Rows.{rect};
-ghost use Rattle.surface.proofs.Accepted.{InOrder};
-ghost use Rattle.fill.specs.Fill.{filled, fillMarks};
+ghost use Rattle.surface.specs.Region.{nonempty};
+ghost use Rattle.fill.specs.Fill.{FillRect, FillRectRop};
+ghost use Rattle.fill.specs.Inner.{roppedRect};
+use clip::Rect;
+use color::Rgb565;
+use surface::Drawn;
 
-// The w by h pixels at x, y in one colour.
+// The w by h pixels at x, y in one colour: fill_rect_rop under PATCOPY.
 pub fn fill_rect(
     pixels: &mut [u8],
     width: u32,
@@ -18,24 +18,15 @@ pub fn fill_rect(
     y: i32,
     w: i32,
     h: i32,
-    color: color::Rgb565,
-) -> surface::Drawn
-    ensures { λ r. ⌜ r ≡ drew (refusal width height (length (now (pixels .entry)))) (fillMarks width height x y w h) ⌝ }
-    ensures bytes { λ _. ⌜ now (pixels .exit) ≡ unlessRefused (refusal width height (length (now (pixels .entry)))) (filled width x y w h (color .0) (now (pixels .entry))) (now (pixels .entry)) ⌝ }
+    color: Rgb565,
+) -> Drawn
+    ensures { λ r. ⌜ FillRect x y w h (color .0) width height (now (pixels .entry)) r (now (pixels .exit)) ⌝ }
 {
-    let number = surface::refusal(width, height, pixels.len());
-    if number == 0 {
-        let marked = fill_box(pixels, width, height, x, y, w, h, color);
-        return surface::Drawn { refusal: 0, marked };
-    }
-    surface::Drawn {
-        refusal: number,
-        marked: false,
-    }
+    fill_rect_rop(pixels, width, height, x, y, w, h, color, rop3::PATCOPY)
 }
 
-// fill_rect on a surface that is in order. Whether a mark is due.
-pub fn fill_box(
+// Pattern and destination under a raster code, at the w by h pixels at x, y. The source operand is 0.
+pub fn fill_rect_rop(
     pixels: &mut [u8],
     width: u32,
     height: u32,
@@ -43,13 +34,29 @@ pub fn fill_box(
     y: i32,
     w: i32,
     h: i32,
-    color: color::Rgb565,
-) -> bool
-    requires { ⌜ InOrder width height (length (now pixels)) ⌝ }
-    ensures { λ r. ⌜ r ≡ fillMarks width height x y w h ⌝ }
-    ensures bytes { λ _. ⌜ now (pixels .exit) ≡ filled width x y w h (color .0) (now (pixels .entry)) ⌝ }
+    pat: Rgb565,
+    rop: u32,
+) -> Drawn
+    ensures { λ r. ⌜ FillRectRop x y w h (pat .0) rop width height (now (pixels .entry)) r (now (pixels .exit)) ⌝ }
 {
-    let r = clip::clip_rect(x, y, w, h, width, height);
+    let number = surface::refusal(width, height, pixels.len());
+    if number == 0 {
+        let part = clip::clip_rect(x, y, w, h, width, height);
+        let marked = rop_rect(pixels, width, part, rop3::table(rop), pat.0);
+        return Drawn { refusal: 0, marked };
+    }
+    Drawn {
+        refusal: number,
+        marked: false,
+    }
+}
+
+// Pattern and destination under a table, at the pixels of a rectangle of the surface. Whether it has any.
+pub fn rop_rect(pixels: &mut [u8], width: u32, r: Rect, table: u8, pat: u16) -> bool
+    requires { ⌜ (0 < width) × ((r .x1 ≤ width) × (2 * (r .y1 * width) ≤ length (now pixels))) ⌝ }
+    ensures { λ some. ⌜ some ≡ nonempty (r .x0) (r .x1) (r .y0) (r .y1) ⌝ }
+    ensures bytes { λ _. ⌜ now (pixels .exit) ≡ roppedRect width (r .x0) (r .x1) (r .y0) (r .y1) table pat (now (pixels .entry)) ⌝ }
+{
     if r.x1 <= r.x0 {
         return false;
     }
@@ -57,32 +64,34 @@ pub fn fill_box(
         return false;
     }
     let columns = (r.x1 - r.x0) as usize;
-    fill_rows(
+    rop_rows(
         pixels,
         width as usize,
         r.x0 as usize,
         columns,
         r.y0 as usize,
         r.y1 as usize,
-        color.0,
+        table,
+        pat,
     );
     true
 }
 
-// One colour in some columns from x0 on of rows y0 .. y1.
-pub fn fill_rows(
+// The same in some columns from x0 on of rows y0 .. y1.
+fn rop_rows(
     pixels: &mut [u8],
     width: usize,
     x0: usize,
     columns: usize,
     y0: usize,
     y1: usize,
-    color: u16,
+    table: u8,
+    pat: u16,
 )
     requires { ⌜ (0 < width) × ((x0 + columns ≤ width) × (2 * (y1 * width) ≤ length (now pixels))) ⌝ }
-    ensures { λ _. ⌜ now (pixels .exit) ≡ painted (wordsOf width (rect x0 (x0 + columns) y0 y1)) (λ _. color) (now (pixels .entry)) ⌝ }
+    ensures { λ _. ⌜ now (pixels .exit) ≡ roppedRect width x0 (x0 + columns) y0 y1 table pat (now (pixels .entry)) ⌝ }
 {
     for r in y0..y1 {
-        runs::fill_run(pixels, r * width + x0, columns, color);
+        raster::rop_run(pixels, r * width + x0, columns, table, pat);
     }
 }

@@ -46,11 +46,8 @@ view l =
 -- and the screen DC and every object are well formed.
 unfoldable pub isRecord : List ℕ → Bool
 isRecord l =
-    eqb (length l) recordSize
-    && (isFlag (at l stockDirtyPlace)
-    && (leb (at l countPlace) 256
-    && (isDc (part l screenPlace dcSize)
-    && allBelow (at l countPlace) (λ i. isSlot (part l (slotPlace i) slotSize)))))
+    eqb (length l) recordSize && (isFlag (at l stockDirtyPlace) && (leb (at l countPlace) 256
+    && (isDc (part l screenPlace dcSize) && allBelow (at l countPlace) (λ i. isSlot (part l (slotPlace i) slotSize)))))
 
 -- The numbers l were updated to the record b: the numbers l′ encode b, and those past its last object are as they were.
 pub record Updated (l : List ℕ) (b : GdiState) (l′ : List ℕ) : Type 0 where

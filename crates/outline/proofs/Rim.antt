@@ -11,13 +11,13 @@ use Rattle.arithmetic.specs.Interval.{between}
 use Rattle.arithmetic.specs.Integer.{positive}
 use Rattle.arithmetic.specs.Inner.{negative}
 use Rattle.arithmetic.proofs.Interval.{Lies, inside, before, behind, where-is, between-yes, between-no}
-use Rattle.arithmetic.proofs.Integer.{sum, difference, one-part, le-parts, lt-parts}
+use Rattle.arithmetic.proofs.Integer.{sum, difference, le-parts, lt-parts}
 use Rattle.arithmetic.proofs.Test.{same-order}
 use Rattle.clip.specs.Clip.{nearest, covers}
 use Rattle.clip.proofs.Clip.{covers-parts, nearest-parts, nearest-le, nearest-lt}
 use Rattle.outline.specs.declared.Edges.{Edges}
 use Rattle.outline.specs.Outline.{rim}
-use Rattle.outline.specs.Inner.{edgesOf, sides, Ordered}
+use Rattle.outline.specs.Inner.{edgesOf, sides}
 
 -- p .. p + n is its first number, its last one, and what lies between
 ends : (p n u : ℕ) → 1 ≤ n → (between p (p + 1) u || between (p + n - 1) (p + n) u) ≡ (between p (p + n) u && not (leb (suc p) u && ltb (suc u) (p + n)))
@@ -65,7 +65,9 @@ module _ (x : ℤ) (n side c : ℕ) (some : 1 ≤ n) (lt : c < side) where
       ∙ same-order (positive (x +ℤ pos 1) + 0) (c + negative (x +ℤ pos 1)) (suc (positive x)) (c + negative x) (λ h. omega (arith, sum x (pos 1))) (λ h. omega (arith, sum x (pos 1))) in
       let to : ltZ (pos c) (x +ℤ pos 1 +ℤ (pos n -ℤ pos 2)) ≡ ltb (suc (c + negative x)) (positive x + n)
       = lt-parts (pos c) (x +ℤ pos 1 +ℤ (pos n -ℤ pos 2))
-      ∙ same-order (suc (c + negative (x +ℤ pos 1 +ℤ (pos n -ℤ pos 2)))) (positive (x +ℤ pos 1 +ℤ (pos n -ℤ pos 2)) + 0) (suc (suc (c + negative x))) (positive x + n) (λ h. omega (arith, sum x (pos 1), difference (pos n) (pos 2), sum (x +ℤ pos 1) (pos n -ℤ pos 2))) (λ h. omega (arith, sum x (pos 1), difference (pos n) (pos 2), sum (x +ℤ pos 1) (pos n -ℤ pos 2))) in
+      ∙ same-order (suc (c + negative (x +ℤ pos 1 +ℤ (pos n -ℤ pos 2)))) (positive (x +ℤ pos 1 +ℤ (pos n -ℤ pos 2)) + 0) (suc (suc (c + negative x))) (positive x + n)
+      (λ h. omega (arith, sum x (pos 1), difference (pos n) (pos 2), sum (x +ℤ pos 1) (pos n -ℤ pos 2)))
+      (λ h. omega (arith, sum x (pos 1), difference (pos n) (pos 2), sum (x +ℤ pos 1) (pos n -ℤ pos 2))) in
       rw (from, to)
 
   -- the first and the last coordinate are the stretch without its inner part
@@ -116,21 +118,13 @@ module _ (x y : ℤ) (n k width height c r : ℕ) (some : 1 ≤ n) (high : 1 ≤
 
   pub sides-rim : sides cols rows c r ≡ rim x y (pos n) (pos k) c r
   sides-rim =
-      join (between (cols .from) (cols .to) c) (between (cols .from) (cols .second) c) (between (cols .last) (cols .to) c) (covers (x +ℤ pos 1) (pos n -ℤ pos 2) c) (between (rows .from) (rows .to) r) (between (rows .from) (rows .second) r) (between (rows .last) (rows .to) r) (covers (y +ℤ pos 1) (pos k -ℤ pos 2) r)
+      join (between (cols .from) (cols .to) c) (between (cols .from) (cols .second) c) (between (cols .last) (cols .to) c) (covers (x +ℤ pos 1) (pos n -ℤ pos 2) c)
+      (between (rows .from) (rows .to) r) (between (rows .from) (rows .second) r) (between (rows .last) (rows .to) r) (covers (y +ℤ pos 1) (pos k -ℤ pos 2) r)
       (ends-covered x n width c some lt ∙ ap (λ (t : Bool). t && not (covers (x +ℤ pos 1) (pos n -ℤ pos 2) c)) (sym (all-covered x n width c some lt)))
       (ends-covered y k height r high below ∙ ap (λ (t : Bool). t && not (covers (y +ℤ pos 1) (pos k -ℤ pos 2) r)) (sym (all-covered y k height r high below)))
       ∙ rw (all-covered x n width c some lt, all-covered y k height r high below)
 
--- the edges are in order and on the side
-pub edges-ordered : (x : ℤ) (n side : ℕ) → 1 ≤ n → Ordered (edgesOf x (pos n) side) side
+-- the edges are on the side
+pub edges-within : (x w : ℤ) (side : ℕ) → (edgesOf x w side .second ≤ side) × (edgesOf x w side .to ≤ side)
 unfolding edgesOf
-edges-ordered x n side some =
-    record {
-      first = omega (arith, nearest-parts x side, nearest-parts (x +ℤ pos 1) side, sum x (pos 1), one-part x, one-part (x +ℤ pos 1));
-      thin-first = omega (arith, nearest-parts x side, nearest-parts (x +ℤ pos 1) side, sum x (pos 1), one-part x, one-part (x +ℤ pos 1));
-      second-in = omega (arith, nearest-parts x side, nearest-parts (x +ℤ pos 1) side, sum x (pos 1), one-part x, one-part (x +ℤ pos 1));
-      across = omega (arith, nearest-parts x side, nearest-parts (x +ℤ pos n) side, sum x (pos n), one-part x, one-part (x +ℤ pos n));
-      end = omega (arith, nearest-parts (x +ℤ pos n) side, nearest-parts (x +ℤ pos n -ℤ pos 1) side, difference (x +ℤ pos n) (pos 1), one-part (x +ℤ pos n), one-part (x +ℤ pos n -ℤ pos 1));
-      thin-end = omega (arith, nearest-parts (x +ℤ pos n) side, nearest-parts (x +ℤ pos n -ℤ pos 1) side, difference (x +ℤ pos n) (pos 1), one-part (x +ℤ pos n), one-part (x +ℤ pos n -ℤ pos 1));
-      to-in = omega (arith, nearest-parts (x +ℤ pos n) side, nearest-parts (x +ℤ pos n -ℤ pos 1) side, difference (x +ℤ pos n) (pos 1), one-part (x +ℤ pos n), one-part (x +ℤ pos n -ℤ pos 1));
-    }
+edges-within x w side = omega (arith, nearest-parts (x +ℤ pos 1) side, nearest-parts (x +ℤ w) side)

@@ -2,8 +2,7 @@
 use mathlib.Core.Path.{_≡_, refl, _∙_, ap}
 use mathlib.Core.Bool.{Bool, _||_}
 use mathlib.Core.List.{List}
-use Prim.Native.Nat.{ℕ, _+_, _-_, _≤_}
-use native.Mathlib.Omega.{arith}
+use Prim.Native.Nat.{ℕ}
 use Rattle.words.specs.Words.{painted}
 use Rattle.words.proofs.Painted.{painted-again}
 use Rattle.surface.specs.Region.{wordsOf}
@@ -12,9 +11,6 @@ use Rattle.outline.specs.declared.Edges.{Edges}
 use Rattle.outline.specs.Inner.{sides}
 
 module _ (W v : ℕ) (cols rows : Edges) (m : List ℕ) where
-  abbrev fill : (x0 x1 y0 y1 : ℕ) → List ℕ → List ℕ
-  fill x0 x1 y0 y1 = painted (wordsOf W (rect x0 x1 y0 y1)) (λ _. v)
-
   abbrev top : ℕ → Bool
   top = wordsOf W (rect (cols .from) (cols .to) (rows .from) (rows .second))
 
@@ -28,20 +24,13 @@ module _ (W v : ℕ) (cols rows : Edges) (m : List ℕ) where
   right = wordsOf W (rect (cols .last) (cols .to) (rows .from) (rows .to))
 
   pub four-sides
-      : {a b c d : List ℕ} → cols .from ≤ cols .to
-      → a ≡ fill (cols .from) (cols .from + (cols .to - cols .from)) (rows .from) (rows .second) m
-      → b ≡ fill (cols .from) (cols .from + (cols .to - cols .from)) (rows .last) (rows .to) a
-      → c ≡ fill (cols .from) (cols .second) (rows .from) (rows .to) b
-      → d ≡ fill (cols .last) (cols .to) (rows .from) (rows .to) c
+      : {a b c d : List ℕ}
+      → a ≡ painted top (λ _. v) m → b ≡ painted bottom (λ _. v) a → c ≡ painted left (λ _. v) b → d ≡ painted right (λ _. v) c
       → d ≡ painted (wordsOf W (sides cols rows)) (λ _. v) m
-  four-sides h ea eb ec ed =
-      let across : cols .from + (cols .to - cols .from) ≡ cols .to = omega arith in
+  four-sides ea eb ec ed =
       ed
-      ∙ ap (painted right (λ _. v)) (ec ∙ ap (painted left (λ _. v)) (eb ∙ rw across (ap (painted bottom (λ _. v)) (ea ∙ rw across) ∙ two) ∙ refl) ∙ three)
-      ∙ painted-again (λ i. left i || (bottom i || top i)) right (wordsOf W (sides cols rows)) (λ _. v) (λ _. v) m (λ i lt. refl) (λ i lt e. refl)
+      ∙ ap (painted right (λ _. v)) (ec ∙ ap (painted left (λ _. v)) (eb ∙ ap (painted bottom (λ _. v)) ea ∙ more top bottom) ∙ more (λ i. bottom i || top i) left)
+      ∙ more (λ i. left i || (bottom i || top i)) right
     where
-      two : painted bottom (λ _. v) (painted top (λ _. v) m) ≡ painted (λ i. bottom i || top i) (λ _. v) m
-      two = painted-again top bottom (λ i. bottom i || top i) (λ _. v) (λ _. v) m (λ i lt. refl) (λ i lt e. refl)
-
-      three : painted left (λ _. v) (painted (λ i. bottom i || top i) (λ _. v) m) ≡ painted (λ i. left i || (bottom i || top i)) (λ _. v) m
-      three = painted-again (λ i. bottom i || top i) left (λ i. left i || (bottom i || top i)) (λ _. v) (λ _. v) m (λ i lt. refl) (λ i lt e. refl)
+      more : (p r : ℕ → Bool) → painted r (λ _. v) (painted p (λ _. v) m) ≡ painted (λ i. r i || p i) (λ _. v) m
+      more p r = painted-again p r (λ i. r i || p i) (λ _. v) (λ _. v) m (λ i lt. refl) (λ i lt e. refl)

@@ -1,7 +1,7 @@
 -- Definitions that only inner functions cite: no exported contract reaches them.
 -- What the code draws of an outline: four sides between the clipped edges of the box.
 use mathlib.Core.Bool.{Bool, _||_}
-use Prim.Native.Nat.{ℕ, suc, _≤_}
+use Prim.Native.Nat.{ℕ, _*_, _≤_, _<_}
 use lib.IntN.{ℤ, pos, _+ℤ_, _-ℤ_}
 use Rattle.clip.specs.Clip.{nearest}
 use Rattle.surface.proofs.Rows.{rect}
@@ -24,12 +24,10 @@ sides columns rows c r =
     || (rect (columns .from) (columns .to) (rows .last) (rows .to) c r
     || rect (columns .from) (columns .to) (rows .from) (rows .second) c r))
 
--- Edges in order, the first and the last coordinate one wide at most, on a side.
-pub record Ordered (e : Edges) (side : ℕ) : Type 0 where
-  pub first : e .from ≤ e .second
-  pub thin-first : e .second ≤ suc (e .from)
-  pub second-in : e .second ≤ side
-  pub across : e .from ≤ e .to
-  pub end : e .last ≤ e .to
-  pub thin-end : e .to ≤ suc (e .last)
-  pub to-in : e .to ≤ side
+-- Edges that lie on a surface of that width and len bytes.
+pub record Framed (width len : ℕ) (columns rows : Edges) : Type 0 where
+  pub some : 0 < width
+  pub second-column : columns .second ≤ width
+  pub last-column : columns .to ≤ width
+  pub second-row : 2 * (rows .second * width) ≤ len
+  pub last-row : 2 * (rows .to * width) ≤ len

@@ -3,9 +3,12 @@ use mathlib.Core.Bool.{Bool, _&&_, not}
 use mathlib.Core.List.{List}
 use Prim.Native.Nat.{ℕ}
 use lib.IntN.{ℤ, pos, _+ℤ_, _-ℤ_}
+use lib.ListN.{length}
 use lib.Signed.{ltZ}
 use Rattle.words.specs.Words.{painted}
+use Rattle.surface.specs.declared.Drawn.{Drawn}
 use Rattle.surface.specs.Region.{wordsOf, box}
+use Rattle.surface.specs.Refusal.{refusal, Drew}
 
 -- one pixel thick: in the box, and not in the one that is a pixel smaller on each side
 abbrev pub rim : (x y w h : ℤ) → (c r : ℕ) → Bool
@@ -18,3 +21,7 @@ outlined width x y w h color m = painted (wordsOf width (rim x y w h)) (λ _. co
 -- it marks whenever w and h are positive
 abbrev pub outlineMarks : (w h : ℤ) → Bool
 outlineMarks w h = ltZ (pos 0) w && ltZ (pos 0) h
+
+-- stroke_rect on a surface of these sides with memory m: its answer, and the memory after it
+abbrev pub StrokeRect : (x y w h : ℤ) → (color width height : ℕ) → (m : List ℕ) → Drawn → (m′ : List ℕ) → Type 0
+StrokeRect x y w h color width height m = Drew (refusal width height (length m)) (outlineMarks w h) (outlined width x y w h color m) m

@@ -1,14 +1,15 @@
 // The outline of a box, one pixel thick. No loop is longer than a side of the surface.
 ghost use mathlib.Core.Path.{_≡_};
-ghost use Prim.Native.Nat.{_+_, _*_, _≤_, _<_};
+ghost use Prim.Native.Nat.{_*_, _≤_, _<_};
 ghost use lib.ListN.{length};
 ghost use Rattle.words.specs.Words.{painted};
 ghost use Rattle.surface.specs.Region.{wordsOf};
-ghost use Rattle.surface.specs.Refusal.{refusal, drew, unlessRefused};
 ghost use Rattle.surface.proofs.Rows.{rect};
-ghost use Rattle.surface.proofs.Accepted.{InOrder};
-ghost use Rattle.outline.specs.Outline.{outlined, outlineMarks};
-ghost use Rattle.outline.specs.Inner.{edgesOf, sides, Ordered};
+ghost use Rattle.outline.specs.Outline.{outlineMarks, StrokeRect};
+ghost use Rattle.outline.specs.Inner.{edgesOf, sides, Framed};
+use clip::Rect;
+use color::Rgb565;
+use surface::Drawn;
 
 // The first coordinate of a stretch is from .. second, the last one last .. to, as far as they lie on a side.
 pub struct Edges {
@@ -27,51 +28,34 @@ pub fn stroke_rect(
     y: i32,
     w: i32,
     h: i32,
-    color: color::Rgb565,
-) -> surface::Drawn
-    ensures { λ r. ⌜ r ≡ drew (refusal width height (length (now (pixels .entry)))) (outlineMarks w h) ⌝ }
-    ensures bytes { λ _. ⌜ now (pixels .exit) ≡ unlessRefused (refusal width height (length (now (pixels .entry)))) (outlined width x y w h (color .0) (now (pixels .entry))) (now (pixels .entry)) ⌝ }
+    color: Rgb565,
+) -> Drawn
+    ensures { λ r. ⌜ StrokeRect x y w h (color .0) width height (now (pixels .entry)) r (now (pixels .exit)) ⌝ }
 {
     let number = surface::refusal(width, height, pixels.len());
     if number == 0 {
-        let marked = stroke_box(pixels, width, height, x, y, w, h, color);
-        return surface::Drawn { refusal: 0, marked };
+        let marked = is_extent(w, h);
+        if marked {
+            let columns = edges_of(x, w, width);
+            let rows = edges_of(y, h, height);
+            stroke_edges(pixels, width, columns, rows, color.0);
+        }
+        return Drawn { refusal: 0, marked };
     }
-    surface::Drawn {
+    Drawn {
         refusal: number,
         marked: false,
     }
 }
 
-// stroke_rect on a surface that is in order. Whether a mark is due.
-pub fn stroke_box(
-    pixels: &mut [u8],
-    width: u32,
-    height: u32,
-    x: i32,
-    y: i32,
-    w: i32,
-    h: i32,
-    color: color::Rgb565,
-) -> bool
-    requires { ⌜ InOrder width height (length (now pixels)) ⌝ }
+// Whether both extents are positive.
+fn is_extent(w: i32, h: i32) -> bool
     ensures { λ r. ⌜ r ≡ outlineMarks w h ⌝ }
-    ensures bytes { λ _. ⌜ now (pixels .exit) ≡ outlined width x y w h (color .0) (now (pixels .entry)) ⌝ }
 {
     if w <= 0 {
         return false;
     }
-    if h <= 0 {
-        return false;
-    }
-    stroke_edges(
-        pixels,
-        width as usize,
-        edges_of(x, w, width),
-        edges_of(y, h, height),
-        color.0,
-    );
-    true
+    0 < h
 }
 
 // The edges of x .. x + w on a side. The sums are exact.
@@ -88,35 +72,27 @@ fn edges_of(x: i32, w: i32, side: u32) -> Edges
     }
 }
 
-// The four sides between these edges.
-fn stroke_edges(pixels: &mut [u8], width: usize, columns: Edges, rows: Edges, color: u16)
-    requires { ⌜ (0 < width) × (Ordered columns width × ((2 * (rows .second * width) ≤ length (now pixels)) × (2 * (rows .to * width) ≤ length (now pixels)))) ⌝ }
-    ensures { λ _. ⌜ now (pixels .exit) ≡ painted (wordsOf width (sides columns rows)) (λ _. color) (now (pixels .entry)) ⌝ }
+// The four sides between the edges of columns, x, and of rows, y.
+fn stroke_edges(pixels: &mut [u8], width: u32, x: Edges, y: Edges, color: u16)
+    requires { ⌜ Framed width (length (now pixels)) x y ⌝ }
+    ensures { λ _. ⌜ now (pixels .exit) ≡ painted (wordsOf width (sides x y)) (λ _. color) (now (pixels .entry)) ⌝ }
 {
-    let x0 = columns.from as usize;
-    let x3 = columns.to as usize;
-    let y0 = rows.from as usize;
-    let y3 = rows.to as usize;
-    fill::fill_rows(pixels, width, x0, x3 - x0, y0, rows.second as usize, color);
-    fill::fill_rows(pixels, width, x0, x3 - x0, rows.last as usize, y3, color);
-    stroke_column(pixels, width, x0, columns.second as usize, y0, y3, color);
-    stroke_column(pixels, width, columns.last as usize, x3, y0, y3, color);
+    stroke_side(pixels, width, x.from, x.to, y.from, y.second, color);
+    stroke_side(pixels, width, x.from, x.to, y.last, y.to, color);
+    stroke_side(pixels, width, x.from, x.second, y.from, y.to, color);
+    stroke_side(pixels, width, x.last, x.to, y.from, y.to, color);
 }
 
-// Columns x0 .. x1, of which there is at most one, of rows y0 .. y1.
-fn stroke_column(
-    pixels: &mut [u8],
-    width: usize,
-    x0: usize,
-    x1: usize,
-    y0: usize,
-    y1: usize,
-    color: u16,
-)
-    requires { ⌜ (0 < width) × ((x1 ≤ width) × ((x1 ≤ x0 + 1) × (2 * (y1 * width) ≤ length (now pixels)))) ⌝ }
+// Columns x0 .. x1 of rows y0 .. y1 in one colour.
+fn stroke_side(pixels: &mut [u8], width: u32, x0: u32, x1: u32, y0: u32, y1: u32, color: u16)
+    requires { ⌜ (0 < width) × ((x1 ≤ width) × (2 * (y1 * width) ≤ length (now pixels))) ⌝ }
     ensures { λ _. ⌜ now (pixels .exit) ≡ painted (wordsOf width (rect x0 x1 y0 y1)) (λ _. color) (now (pixels .entry)) ⌝ }
 {
-    if x0 < x1 {
-        fill::fill_rows(pixels, width, x0, 1, y0, y1, color);
-    }
+    fill::rop_rect(
+        pixels,
+        width,
+        Rect { x0, y0, x1, y1 },
+        raster::PATCOPY_TABLE,
+        color,
+    );
 }

@@ -115,7 +115,7 @@ fn pattern_filled(c: &[u8], mem: &mut [u8], lent: Lent) -> surface::Drawn
     let pattern = Rgb565(bigendian::read_u16(c, 17));
     let code = bigendian::read_u32(c, 19);
     let len = lent.len;
-    fill_rop::fill_rect_rop(
+    fill::fill_rect_rop(
         &mut mem[0..len],
         lent.w,
         lent.h,

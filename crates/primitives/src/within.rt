@@ -4,6 +4,7 @@ use crate::line;
 use crate::line::Reply;
 use crate::memory;
 use crate::memory::Sides;
+use blit::Blit;
 use color::Rgb565;
 ghost use mathlib.Core.Path.{_≡_};
 ghost use Prim.Native.Nat.{_+_, _*_, _≤_};
@@ -99,21 +100,17 @@ fn blitted(
     let r = drawing::read_route(c, args);
     let code = bigendian::read_u32(c, args + 24);
     let pattern = Rgb565(bigendian::read_u16(c, args + 28));
-    blit_within::blit_within(
-        mem,
-        at,
-        dst.w,
-        dst.h,
-        r.dx,
-        r.dy,
-        r.sx,
-        r.sy,
-        r.w,
-        r.h,
-        src_at,
-        src.w,
-        src.h,
-        code,
-        pattern,
-    )
+    let b = Blit {
+        width: dst.w,
+        height: dst.h,
+        dx: r.dx,
+        dy: r.dy,
+        sx: r.sx,
+        sy: r.sy,
+        w: r.w,
+        h: r.h,
+        src_w: src.w,
+        src_h: src.h,
+    };
+    blit_within::blit_within(mem, at, src_at, b, code, pattern)
 }

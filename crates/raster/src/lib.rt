@@ -7,7 +7,7 @@ ghost use Rattle.arithmetic.specs.Interval.{between};
 ghost use Rattle.words.specs.Words.{painted};
 ghost use Rattle.raster.specs.Raster.{ropped};
 
-const PATCOPY_TABLE: u8 = 0xF0;
+pub const PATCOPY_TABLE: u8 = 0xF0;
 
 const DSTINVERT_TABLE: u8 = 0x55;
 

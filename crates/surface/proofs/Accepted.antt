@@ -1,11 +1,11 @@
 -- What an operation that is not refused may count on. Assumes nothing.
-use mathlib.Core.Path.{_≡_, refl}
+use mathlib.Core.Path.{_≡_, refl, sym}
 use mathlib.Core.Bool.{Bool, true, false, _&&_, cond}
 use Prim.Native.Nat.{ℕ, _*_, _≤_, _<_}
 use native.Mathlib.Omega.{arith}
 use lib.Dec.{leb, eqb}
-use borrow.Author.Tests.{leb-true, eqb-true, eq-eqb, ne-eqb}
-use Rattle.arithmetic.proofs.Test.{both}
+use borrow.Author.Tests.{leb-true, le-leb, eqb-true, eq-eqb, ne-eqb}
+use Rattle.arithmetic.proofs.Test.{both, together}
 use Rattle.surface.specs.Refusal.{side, sourceSide, refusalFor, refusal, refusalFrom}
 
 -- A surface in order: sides in their limits, and bytes, of which there are len, as many as they say.
@@ -62,3 +62,14 @@ module _ (width height len : ℕ) where
       let q = both (side width && side height) (sourceSide src-w && sourceSide src-h) (p .0) in
       let own = both (side width) (side height) (q .0) in
       (sides-in-order (own .0) (own .1) (p .1), leb-true src-w 4096 (both (sourceSide src-w) (sourceSide src-h) (q .1) .0))
+
+  -- and the other way round
+  module _ (o : InOrder width height len) where
+    own-sides : (side width && side height) ≡ true
+    own-sides = together (together (le-leb 1 width (o .some)) (le-leb width 4096 (o .wide))) (together (le-leb 1 height (o .some-rows)) (le-leb height 4096 (o .high)))
+
+    pub order-accepted : refusal width height len ≡ 0
+    order-accepted = sym (not-refused own-sides (o .long))
+
+    pub order-accepted-from : {src-w src-h : ℕ} → src-w ≤ 4096 → src-h ≤ 4096 → refusalFrom width height src-w src-h len ≡ 0
+    order-accepted-from {src-w} {src-h} p q = sym (not-refused (together own-sides (together (le-leb src-w 4096 p) (le-leb src-h 4096 q))) (o .long))

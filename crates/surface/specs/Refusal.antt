@@ -1,6 +1,7 @@
 -- Refusals of the operations on lent bytes, and their answers.
 use mathlib.Core.Bool.{Bool, _&&_, cond}
 use mathlib.Core.List.{List}
+use mathlib.Core.Path.{_≡_}
 use Prim.Native.Nat.{ℕ, _*_}
 use lib.Dec.{leb, eqb}
 use Rattle.surface.specs.declared.Drawn.{Drawn}
@@ -25,14 +26,19 @@ refusal width height len = refusalFor (side width && side height) width height l
 abbrev pub refusalFrom : (width height src-w src-h len : ℕ) → ℕ
 refusalFrom width height src-w src-h len = refusalFor ((side width && side height) && (sourceSide src-w && sourceSide src-h)) width height len
 
--- a drawing's answer: a refusal gives its number and no mark
-abbrev pub drew : ℕ → Bool → Drawn
-drew number mark = record { refusal = number; marked = eqb number 0 && mark }
-
--- a text's answer: a refusal gives its number and no advance
-abbrev pub advanced : ℕ → ℕ → Advance
-advanced number advance = record { refusal = number; advance = cond (eqb number 0) advance 0 }
-
 -- the bytes after an operation: a refusal changes none
 abbrev pub unlessRefused : ℕ → (new old : List ℕ) → List ℕ
 unlessRefused number new old = cond (eqb number 0) new old
+
+-- What an operation has done: its answer, and the bytes after it, which are those drawn unless it is refused with a number.
+pub record Done {A : Type 0} (expected : A) (number : ℕ) (drawn before : List ℕ) (r : A) (after : List ℕ) : Type 0 where
+  pub answer : r ≡ expected
+  pub bytes : after ≡ unlessRefused number drawn before
+
+-- a drawing: a refusal answers its number and no mark
+abbrev pub Drew : (number : ℕ) → (mark : Bool) → (drawn before : List ℕ) → Drawn → (after : List ℕ) → Type 0
+Drew number mark = Done (record { refusal = number; marked = eqb number 0 && mark }) number
+
+-- a text: a refusal answers its number and no advance
+abbrev pub Advanced : (number advance : ℕ) → (drawn before : List ℕ) → Advance → (after : List ℕ) → Type 0
+Advanced number advance = Done (record { refusal = number; advance = cond (eqb number 0) advance 0 }) number

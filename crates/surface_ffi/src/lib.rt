@@ -1,17 +1,9 @@
 // The operations on lent bytes under C names, for programs in other languages. A slice is a pointer and a length there, a
-// colour its 16 bits.
-ghost use mathlib.Core.Path.{_≡_};
-ghost use mathlib.Core.Bool.{false};
-ghost use Prim.Native.Nat.{_*_};
-ghost use lib.ListN.{length};
-ghost use Rattle.words.specs.Words.{painted};
-ghost use Rattle.rop3.specs.Rop3.{tableOf};
-ghost use Rattle.surface.specs.Region.{wordsOf};
-ghost use Rattle.surface.specs.Refusal.{refusal, refusalFrom, drew, advanced, unlessRefused};
-ghost use Rattle.fill.specs.Fill.{filled, filledRop, fillMarks};
-ghost use Rattle.outline.specs.Outline.{outlined, outlineMarks};
-ghost use Rattle.blit.specs.Blit.{blitOf, marks, blitFrom};
-ghost use Rattle.text.specs.Ink.{charInk, textInk, unitCount, textRefusal};
+// colour a struct of its 16 bits. Each makes a surface of its parts and passes it on.
+ghost use Rattle.fill.specs.Fill.{FillRect, FillRectRop};
+ghost use Rattle.outline.specs.Outline.{StrokeRect};
+ghost use Rattle.blit.specs.Blit.{BlitBytes};
+ghost use Rattle.text.specs.Ink.{DrawChar, DrawStr};
 
 // fill::fill_rect
 #[no_mangle]
@@ -23,15 +15,19 @@ pub extern "C" fn ravinefork_fill_rect(
     y: i32,
     w: i32,
     h: i32,
-    color: u16,
+    color: color::Rgb565,
 ) -> surface::Drawn
-    ensures { λ r. ⌜ r ≡ drew (refusal width height (length (now (pixels .entry)))) (fillMarks width height x y w h) ⌝ }
-    ensures bytes { λ _. ⌜ now (pixels .exit) ≡ unlessRefused (refusal width height (length (now (pixels .entry)))) (filled width x y w h color (now (pixels .entry))) (now (pixels .entry)) ⌝ }
+    ensures { λ r. ⌜ FillRect x y w h (color .0) width height (now (pixels .entry)) r (now (pixels .exit)) ⌝ }
 {
-    fill::fill_rect(pixels, width, height, x, y, w, h, color::Rgb565(color))
+    let s = lent::Surface {
+        pixels,
+        width,
+        height,
+    };
+    lent::fill_rect(s, x, y, w, h, color)
 }
 
-// fill_rop::fill_rect_rop
+// fill::fill_rect_rop
 #[no_mangle]
 pub extern "C" fn ravinefork_fill_rect_rop(
     pixels: &mut [u8],
@@ -41,13 +37,17 @@ pub extern "C" fn ravinefork_fill_rect_rop(
     y: i32,
     w: i32,
     h: i32,
-    pat: u16,
+    pat: color::Rgb565,
     rop: u32,
 ) -> surface::Drawn
-    ensures { λ r. ⌜ r ≡ drew (refusal width height (length (now (pixels .entry)))) (fillMarks width height x y w h) ⌝ }
-    ensures bytes { λ _. ⌜ now (pixels .exit) ≡ unlessRefused (refusal width height (length (now (pixels .entry)))) (filledRop width x y w h (tableOf rop) pat (now (pixels .entry))) (now (pixels .entry)) ⌝ }
+    ensures { λ r. ⌜ FillRectRop x y w h (pat .0) rop width height (now (pixels .entry)) r (now (pixels .exit)) ⌝ }
 {
-    fill_rop::fill_rect_rop(pixels, width, height, x, y, w, h, color::Rgb565(pat), rop)
+    let s = lent::Surface {
+        pixels,
+        width,
+        height,
+    };
+    lent::fill_rect_rop(s, x, y, w, h, pat, rop)
 }
 
 // outline::stroke_rect
@@ -60,12 +60,16 @@ pub extern "C" fn ravinefork_stroke_rect(
     y: i32,
     w: i32,
     h: i32,
-    color: u16,
+    color: color::Rgb565,
 ) -> surface::Drawn
-    ensures { λ r. ⌜ r ≡ drew (refusal width height (length (now (pixels .entry)))) (outlineMarks w h) ⌝ }
-    ensures bytes { λ _. ⌜ now (pixels .exit) ≡ unlessRefused (refusal width height (length (now (pixels .entry)))) (outlined width x y w h color (now (pixels .entry))) (now (pixels .entry)) ⌝ }
+    ensures { λ r. ⌜ StrokeRect x y w h (color .0) width height (now (pixels .entry)) r (now (pixels .exit)) ⌝ }
 {
-    outline::stroke_rect(pixels, width, height, x, y, w, h, color::Rgb565(color))
+    let s = lent::Surface {
+        pixels,
+        width,
+        height,
+    };
+    lent::stroke_rect(s, x, y, w, h, color)
 }
 
 // blit::blit_from_bytes_rop
@@ -84,27 +88,16 @@ pub extern "C" fn ravinefork_blit_from_bytes_rop(
     src_w: u32,
     src_h: u32,
     rop: u32,
-    pat: u16,
+    pat: color::Rgb565,
 ) -> surface::Drawn
-    ensures { λ r. ⌜ r ≡ drew (refusalFrom width height «src_w» «src_h» (length (now (pixels .entry)))) (marks (blitOf width height dx dy sx sy w h «src_w» «src_h»)) ⌝ }
-    ensures bytes { λ _. ⌜ now (pixels .exit) ≡ unlessRefused (refusalFrom width height «src_w» «src_h» (length (now (pixels .entry)))) (blitFrom (blitOf width height dx dy sx sy w h «src_w» «src_h») (tableOf rop) pat (now (src .entry)) (now (pixels .entry))) (now (pixels .entry)) ⌝ }
+    ensures { λ r. ⌜ BlitBytes dx dy sx sy w h (now (src .entry)) «src_w» «src_h» rop (pat .0) width height (now (pixels .entry)) r (now (pixels .exit)) ⌝ }
 {
-    blit::blit_from_bytes_rop(
+    let s = lent::Surface {
         pixels,
         width,
         height,
-        dx,
-        dy,
-        sx,
-        sy,
-        w,
-        h,
-        src,
-        src_w,
-        src_h,
-        rop,
-        color::Rgb565(pat),
-    )
+    };
+    lent::blit_from_bytes_rop(s, dx, dy, sx, sy, w, h, src, src_w, src_h, rop, pat)
 }
 
 // text::draw_char
@@ -116,12 +109,16 @@ pub extern "C" fn ravinefork_draw_char(
     x: i32,
     y: i32,
     ch: u32,
-    color: u16,
+    color: color::Rgb565,
 ) -> surface::Drawn
-    ensures { λ r. ⌜ r ≡ drew (refusal width height (length (now (pixels .entry)))) false ⌝ }
-    ensures bytes { λ _. ⌜ now (pixels .exit) ≡ unlessRefused (refusal width height (length (now (pixels .entry)))) (painted (wordsOf width (charInk x y ch)) (λ _. color) (now (pixels .entry))) (now (pixels .entry)) ⌝ }
+    ensures { λ r. ⌜ DrawChar x y ch (color .0) width height (now (pixels .entry)) r (now (pixels .exit)) ⌝ }
 {
-    text::draw_char(pixels, width, height, x, y, ch, color::Rgb565(color))
+    let s = lent::Surface {
+        pixels,
+        width,
+        height,
+    };
+    lent::draw_char(s, x, y, ch, color)
 }
 
 // text::draw_str_u16
@@ -132,11 +129,15 @@ pub extern "C" fn ravinefork_draw_str_u16(
     height: u32,
     x: i32,
     y: i32,
-    s: &[u16],
-    color: u16,
+    units: &[u16],
+    color: color::Rgb565,
 ) -> surface::Advance
-    ensures { λ r. ⌜ r ≡ advanced (textRefusal (refusal width height (length (now (pixels .entry)))) (unitCount (now (s .entry)))) (6 * unitCount (now (s .entry))) ⌝ }
-    ensures bytes { λ _. ⌜ now (pixels .exit) ≡ unlessRefused (textRefusal (refusal width height (length (now (pixels .entry)))) (unitCount (now (s .entry)))) (painted (wordsOf width (textInk (now (s .entry)) (unitCount (now (s .entry))) x y)) (λ _. color) (now (pixels .entry))) (now (pixels .entry)) ⌝ }
+    ensures { λ r. ⌜ DrawStr x y (now (units .entry)) (color .0) width height (now (pixels .entry)) r (now (pixels .exit)) ⌝ }
 {
-    text::draw_str_u16(pixels, width, height, x, y, s, color::Rgb565(color))
+    let s = lent::Surface {
+        pixels,
+        width,
+        height,
+    };
+    lent::draw_str_u16(s, x, y, units, color)
 }

@@ -1,13 +1,17 @@
 -- The ink of glyphs and of text, pixel by pixel.
-use mathlib.Core.Bool.{Bool, _&&_, cond}
+use mathlib.Core.Bool.{Bool, false, _&&_, cond}
 use mathlib.Core.List.{List, [], _∷_}
 use Prim.Native.Nat.{ℕ, suc, _-_, _*_}
 use lib.Dec.{leb, eqb}
 use lib.IntN.{ℤ, pos, _+ℤ_}
-use lib.ListN.{getD}
+use lib.ListN.{getD, length}
 use Rattle.arithmetic.specs.Test.{anyBelow}
 use Rattle.font.specs.Font.{inked}
-use Rattle.surface.specs.Region.{box}
+use Rattle.words.specs.Words.{painted}
+use Rattle.surface.specs.declared.Drawn.{Drawn}
+use Rattle.surface.specs.declared.Advance.{Advance}
+use Rattle.surface.specs.Region.{wordsOf, box}
+use Rattle.surface.specs.Refusal.{refusal, Drew, Advanced}
 use Rattle.glyph.specs.Past.{past}
 
 -- the ink of glyph g with its upper left corner at x, y: eight rows, bit 7 leftmost
@@ -38,3 +42,12 @@ textInk units n x y c r = anyBelow n (λ k. glyphInk (x +ℤ pos (6 * k)) y (gly
 -- the number of a text's refusal: as other operations, and last 10, over 65,535 units
 unfoldable pub textRefusal : (number n : ℕ) → ℕ
 textRefusal number n = cond (eqb number 0) (cond (leb n 65535) 0 10) number
+
+-- draw_char on a surface of these sides with memory m: its answer, which has no mark, and the memory after it
+abbrev pub DrawChar : (x y : ℤ) → (ch color width height : ℕ) → (m : List ℕ) → Drawn → (m′ : List ℕ) → Type 0
+DrawChar x y ch color width height m = Drew (refusal width height (length m)) false (painted (wordsOf width (charInk x y ch)) (λ _. color) m) m
+
+-- the same of draw_str_u16, which answers the advance of n units
+abbrev pub DrawStr : (x y : ℤ) → (units : List ℕ) → (color width height : ℕ) → (m : List ℕ) → Advance → (m′ : List ℕ) → Type 0
+DrawStr x y units color width height m =
+    let n = unitCount units in Advanced (textRefusal (refusal width height (length m)) n) (6 * n) (painted (wordsOf width (textInk units n x y)) (λ _. color) m) m

@@ -1,14 +1,15 @@
 // Characters and text in ink: only the pixels of a glyph's set bits are painted.
 ghost use mathlib.Core.Path.{_≡_};
-ghost use mathlib.Core.Bool.{false};
-ghost use Prim.Native.Nat.{_*_, _≤_, _<_};
+ghost use Prim.Native.Nat.{_≤_, _<_};
 ghost use lib.ListN.{length};
 ghost use Rattle.words.specs.Words.{painted};
 ghost use Rattle.surface.specs.Region.{wordsOf};
-ghost use Rattle.surface.specs.Refusal.{refusal, drew, advanced, unlessRefused};
 ghost use Rattle.surface.proofs.Accepted.{InOrder};
-ghost use Rattle.text.specs.Ink.{printable, charInk, glyphFor, textInk, unitCount, textRefusal};
+ghost use Rattle.text.specs.Ink.{printable, glyphFor, textInk, unitCount, DrawChar, DrawStr};
 ghost use Rattle.text.specs.Inner.{Reached};
+use color::Rgb565;
+use surface::Advance;
+use surface::Drawn;
 
 // The longest text, in units.
 pub const MAX_UNITS: usize = 65535;
@@ -24,10 +25,9 @@ pub fn draw_char(
     x: i32,
     y: i32,
     ch: u32,
-    color: color::Rgb565,
-) -> surface::Drawn
-    ensures { λ r. ⌜ r ≡ drew (refusal width height (length (now (pixels .entry)))) false ⌝ }
-    ensures bytes { λ _. ⌜ now (pixels .exit) ≡ unlessRefused (refusal width height (length (now (pixels .entry)))) (painted (wordsOf width (charInk x y ch)) (λ _. color .0) (now (pixels .entry))) (now (pixels .entry)) ⌝ }
+    color: Rgb565,
+) -> Drawn
+    ensures { λ r. ⌜ DrawChar x y ch (color .0) width height (now (pixels .entry)) r (now (pixels .exit)) ⌝ }
 {
     let number = surface::refusal(width, height, pixels.len());
     if number == 0 {
@@ -35,12 +35,12 @@ pub fn draw_char(
             let rows = font_table::glyph((ch - 0x20) as usize);
             glyph::draw_glyph(pixels, width, height, x, 0, y, rows, color.0);
         }
-        return surface::Drawn {
+        return Drawn {
             refusal: 0,
             marked: false,
         };
     }
-    surface::Drawn {
+    Drawn {
         refusal: number,
         marked: false,
     }
@@ -55,10 +55,9 @@ pub fn draw_str_u16(
     x: i32,
     y: i32,
     s: &[u16],
-    color: color::Rgb565,
-) -> surface::Advance
-    ensures { λ r. ⌜ r ≡ advanced (textRefusal (refusal width height (length (now (pixels .entry)))) (unitCount (now (s .entry)))) (6 * unitCount (now (s .entry))) ⌝ }
-    ensures bytes { λ _. ⌜ now (pixels .exit) ≡ unlessRefused (textRefusal (refusal width height (length (now (pixels .entry)))) (unitCount (now (s .entry)))) (painted (wordsOf width (textInk (now (s .entry)) (unitCount (now (s .entry))) x y)) (λ _. color .0) (now (pixels .entry))) (now (pixels .entry)) ⌝ }
+    color: Rgb565,
+) -> Advance
+    ensures { λ r. ⌜ DrawStr x y (now (s .entry)) (color .0) width height (now (pixels .entry)) r (now (pixels .exit)) ⌝ }
 {
     let number = surface::refusal(width, height, pixels.len());
     if number == 0 {
@@ -66,17 +65,17 @@ pub fn draw_str_u16(
         if n <= MAX_UNITS {
             draw_units(pixels, width, height, x, y, s, n, color);
             let advance = GLYPH_W * (n as u32);
-            return surface::Advance {
+            return Advance {
                 refusal: 0,
                 advance,
             };
         }
-        return surface::Advance {
+        return Advance {
             refusal: surface::TOO_MANY_UNITS,
             advance: 0,
         };
     }
-    surface::Advance {
+    Advance {
         refusal: number,
         advance: 0,
     }
@@ -105,7 +104,7 @@ pub fn draw_units(
     y: i32,
     s: &[u16],
     n: usize,
-    color: color::Rgb565,
+    color: Rgb565,
 )
     requires { ⌜ InOrder width height (length (now pixels)) ⌝ }
     requires { ⌜ (n ≤ length (now s)) × (n ≤ 65535) ⌝ }

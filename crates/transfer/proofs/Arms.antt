@@ -16,7 +16,7 @@ use Rattle.plan.specs.declared.Area.{Area}
 use Rattle.plan.specs.declared.Point.{Point}
 use Rattle.paint.specs.Memories.{Memories, memories, memoryOf, withMemory, over}
 use Rattle.plan.specs.Drawing.{blittedAt}
-use Rattle.transfer.specs.Inner.{SameOrApart, PlacesApart, blitPart, numbers, transferred}
+use Rattle.transfer.specs.Inner.{SameOrApart, PlacesApart, blitPart, blitNumbers, transferred}
 use Rattle.transfer.proofs.Drawn.{no-source, part-back}
 
 module _ {at src : Place} {m r : Memory} {p w h q x y : ℕ} (e : at ≡ At m p w h) (f : src ≡ At r q x y) where
@@ -52,7 +52,7 @@ module _ (ms : Memories) {at : Place} (src : Place) (a : Area) (z : Point) (t c 
 
     -- the target lies in the memory u, the source in v
     module _ {r : Memory} {q x y : ℕ} (f : src ≡ At r q x y) (u v : Memory) (g : m ≡ u) (k : r ≡ v) where
-      pub drawn : {due : Bool} {l : List ℕ} → (due ≡ marks (numbers w h a z x y)) × (l ≡ withPart (memoryOf ms u) p (size w h)
+      pub drawn : {due : Bool} {l : List ℕ} → (due ≡ marks (blitNumbers w h a z x y)) × (l ≡ withPart (memoryOf ms u) p (size w h)
           (blitPart a z t c (part (memoryOf ms v) q (size x y)) x y w (part (memoryOf ms u) p (size w h))))
           → Made at src a z t c ms due (withMemory ms u l)
       drawn (mark, d) = rw (e, f, g, k) (mark, ap (withMemory ms u) d)

@@ -25,18 +25,19 @@ use Rattle.clip.specs.Clip.{covers}
 use Rattle.clip_blit.specs.Blit.{sourceAt, inside, drawnAlong, drawnAt}
 use Rattle.clip_blit.proofs.Blit.{drawn-source}
 use Rattle.surface.specs.Region.{wordsOf}
-use Rattle.blit.specs.Blit.{Blit, region, marks, sourceWord, blitFrom}
+use Rattle.blit.specs.declared.Blit.{Blit}
+use Rattle.blit.specs.Blit.{region, marks, sourceWord, blitFrom}
 use Rattle.blit_within.specs.Inner.{blitWithin, Placed}
 use Rattle.blit.proofs.From.{all-rows-held}
 use Rattle.gdi.specs.Record.{size}
 use Rattle.place.specs.Place.{Inside}
 use Rattle.plan.specs.declared.Area.{Area}
 use Rattle.plan.specs.declared.Point.{Point}
-use Rattle.transfer.specs.Inner.{SameOrApart, blitPart, numbers}
+use Rattle.transfer.specs.Inner.{SameOrApart, blitPart, blitNumbers}
 
 module _ (W H : ℕ) (a : Area) (f : Point) (SW SH t c : ℕ) where
   abbrev B : Blit
-  B = numbers W H a f SW SH
+  B = blitNumbers W H a f SW SH
 
   -- the word that is taken for a pixel of the blit is one of the source
   source-lt : (x y : ℕ) → region B x y ≡ true → sourceWord B x y < SW * SH

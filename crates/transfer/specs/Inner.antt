@@ -10,7 +10,8 @@ use Rattle.words.specs.Parts.{part, withPart}
 use Rattle.rop3.specs.Rop3.{applied}
 use Rattle.clip_blit.specs.Blit.{sourceAt, drawnAt}
 use Rattle.surface.specs.Region.{wordsOf}
-use Rattle.blit.specs.Blit.{Blit, blitOf}
+use Rattle.blit.specs.declared.Blit.{Blit}
+use Rattle.blit.specs.Blit.{blitOf}
 use Rattle.gdi.specs.Record.{size}
 use Rattle.place.specs.declared.Memory.the-variants.{Panel, Store}
 use Rattle.place.specs.declared.Place.{Place}
@@ -46,8 +47,8 @@ abbrev pub blitInto : (p width height : ℕ) → Area → (from : Point) → (ta
 blitInto p width height a z t c src src-w src-h m = withPart m p (size width height) (blitPart a z t c src src-w src-h width (part m p (size width height)))
 
 -- a blit's numbers, from an area and a point
-abbrev pub numbers : (width height : ℕ) → Area → (from : Point) → (src-w src-h : ℕ) → Blit
-numbers width height a f src-w src-h = blitOf width height (a .x) (a .y) (f .x) (f .y) (a .w) (a .h) src-w src-h
+abbrev pub blitNumbers : (width height : ℕ) → Area → (from : Point) → (src-w src-h : ℕ) → Blit
+blitNumbers width height a f src-w src-h = blitOf width height (a .x) (a .y) (f .x) (f .y) (a .w) (a .h) src-w src-h
 
 -- the memories after a blit from the surface at src to the surface at
 abbrev pub transferred : (at src : Place) → Area → (from : Point) → (table pat : ℕ) → Memories → Memories

@@ -8,7 +8,8 @@ ghost use Rattle.gdi.specs.Record.{size};
 ghost use Rattle.place.specs.Place.{Inside, Within};
 ghost use Rattle.paint.specs.Memories.{memories};
 ghost use Rattle.plan.specs.Drawing.{blittedAt};
-ghost use Rattle.transfer.specs.Inner.{SameOrApart, PlacesApart, numbers, blitInto, transferred};
+ghost use Rattle.transfer.specs.Inner.{SameOrApart, PlacesApart, blitNumbers, blitInto, transferred};
+use blit::Blit;
 use color::Rgb565;
 use place::Memory;
 use place::Place;
@@ -115,27 +116,13 @@ fn blit_between(
     pat: Rgb565,
 ) -> bool
     requires { ⌜ Inside (length (now mem)) p width height × Inside (length (now other)) q «src_w» «src_h» ⌝ }
-    ensures { λ r. ⌜ r ≡ marks (numbers width height area from «src_w» «src_h») ⌝ }
+    ensures { λ r. ⌜ r ≡ marks (blitNumbers width height area from «src_w» «src_h») ⌝ }
     ensures bytes { λ _. ⌜ now (mem .exit) ≡ blitInto p width height area from (tableOf rop) (pat .0) (part (now (other .entry)) q (size «src_w» «src_h»)) «src_w» «src_h» (now (mem .entry)) ⌝ }
 {
     let n = 2 * ((width * height) as usize);
     let k = 2 * ((src_w * src_h) as usize);
-    blit::blit_from(
-        &mut mem[p..p + n],
-        width,
-        height,
-        area.x,
-        area.y,
-        from.x,
-        from.y,
-        area.w,
-        area.h,
-        &other[q..q + k],
-        src_w,
-        src_h,
-        rop,
-        pat,
-    )
+    let b = blit_numbers(width, height, area, from, src_w, src_h);
+    blit::blit_from(&mut mem[p..p + n], b, &other[q..q + k], rop, pat)
 }
 
 // Blits to the surface at byte p from the surface at byte q of the same memory.
@@ -154,24 +141,27 @@ fn blit_inside(
 ) -> bool
     requires { ⌜ Inside (length (now mem)) p width height × Inside (length (now mem)) q «src_w» «src_h» ⌝ }
     requires { ⌜ SameOrApart p width height q «src_w» «src_h» ⌝ }
-    ensures { λ r. ⌜ r ≡ marks (numbers width height area from «src_w» «src_h») ⌝ }
+    ensures { λ r. ⌜ r ≡ marks (blitNumbers width height area from «src_w» «src_h») ⌝ }
     ensures bytes { λ _. ⌜ now (mem .exit) ≡ blitInto p width height area from (tableOf rop) (pat .0) (part (now (mem .entry)) q (size «src_w» «src_h»)) «src_w» «src_h» (now (mem .entry)) ⌝ }
 {
-    blit_within::blit_within(
-        mem,
-        p / 2,
+    let b = blit_numbers(width, height, area, from, src_w, src_h);
+    blit_within::blit_within(mem, p / 2, q / 2, b, rop, pat)
+}
+
+// Returns the numbers of a blit to an area from a point.
+fn blit_numbers(width: u32, height: u32, area: Area, from: Point, src_w: u32, src_h: u32) -> Blit
+    ensures { λ b. ⌜ b ≡ blitNumbers width height area from «src_w» «src_h» ⌝ }
+{
+    Blit {
         width,
         height,
-        area.x,
-        area.y,
-        from.x,
-        from.y,
-        area.w,
-        area.h,
-        q / 2,
+        dx: area.x,
+        dy: area.y,
+        sx: from.x,
+        sy: from.y,
+        w: area.w,
+        h: area.h,
         src_w,
         src_h,
-        rop,
-        pat,
-    )
+    }
 }

@@ -8,8 +8,9 @@ use Rattle.arithmetic.proofs.Machine.{held32, stored32}
 use Rattle.rop3.specs.Rop3.{tableOf}
 use Rattle.surface.specs.Refusal.{refusalFrom}
 use Rattle.surface.proofs.Accepted.{in-order-from}
-use Rattle.surface.proofs.Answers.{accepted-answer, accepted-bytes, refused-answer, refused-bytes}
-use Rattle.blit.specs.Blit.{Blit, blitOf, marks, blitFrom}
+use Rattle.surface.proofs.Answers.{drawn-done, drawing-refused}
+use Rattle.blit.specs.declared.Blit.{Blit}
+use Rattle.blit.specs.Blit.{blitOf, marks, blitFrom}
 use Rattle.blit.proofs.blit_from_bytes_rop.Statement.{statement}
 use Rattle.blit.proofs.blit_from_bytes_rop.Tie as tie
 
@@ -49,18 +50,11 @@ same-length c = search needs
 returns : tie.Need-returns
 returns c =
     let s = c .before .before .before .before .before .before .before .before in
-    let a = s .args in
-    let is = c .before .before .before .before .before .refusal-from .ensures in
-    let zero = c .before .before .before .before .if1 .taken in (
-      accepted-answer (number s) is zero (c .before .before .blit-from .ensures .0 ∙ ap marks (given s)),
-      accepted-bytes (number s) is zero (drawn s (b s)) (a .pixels .now) (c .before .before .blit-from .ensures .1 ∙ ap (drawn s) (given s)),
-    )
+    let e = c .before .before .blit-from .ensures in
+    drawn-done (number s) (c .before .before .before .before .before .refusal-from .ensures) (c .before .before .before .before .if1 .taken) (e .0 ∙ ap marks (given s)) (e .1 ∙ ap (drawn s) (given s))
 
 returns-2 : tie.Need-returns-2
-returns-2 c =
-    let s = c .before .before .before .before in
-    let is = c .before .refusal-from .ensures in
-    (refused-answer (number s) is (c .if1 .left) (marks (b s)), refused-bytes (number s) is (c .if1 .left) (drawn s (b s)) (s .args .pixels .now))
+returns-2 c = let s = c .before .before .before .before in drawing-refused (number s) (c .before .refusal-from .ensures) (c .if1 .left) (marks (b s))
 
 pub blit-from-bytes-rop-spec : {M : Type 1} → statement M
 blit-from-bytes-rop-spec =

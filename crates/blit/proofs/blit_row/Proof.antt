@@ -61,7 +61,10 @@ same-length : tie.Need-same-length
 same-length c = search needs
 
 returns : tie.Need-returns
-returns c = let a = c .before .before .before .before .before .before .before .before .before .before .before .args in row-held (a .r) (a .width) (a .src-w) (a .table) (a .pat) (a .y) (a .src .now) (a .pixels .now) (c .before .before .before .before .before .before .source-row .ensures) (omega arith) (c .before .before .rop-run-from .ensures)
+returns c =
+    let k = c .before .before .before .before .before .before in
+    let a = start k .args in
+    row-held (a .r) (a .width) (a .src-w) (a .table) (a .pat) (a .y) (a .src .now) (a .pixels .now) (k .source-row .ensures) (omega arith) (c .before .before .rop-run-from .ensures)
 
 returns-2 : tie.Need-returns-2
 returns-2 c = let a = c .before .before .before .before .before .before .before .args in row-passed (a .r) (a .width) (a .src-w) (a .table) (a .pat) (a .y) (a .src .now) (a .pixels .now) (c .before .before .source-row .ensures) (omega arith)

@@ -32,7 +32,10 @@ loop-again c =
     let s = c .before .before .before .before .before .before .before .before in
     let a = s .args in
     let l = c .before .before .before .before .before .loop in
-    (next-from (a .r) (a .width) (a .src-w) (a .table) (a .pat) (a .src .now) (a .pixels .now) (s .pre) (l .y) (l .inv .1 .1 .0) (c .before .before .before .before .loop-test .taken) (l .inv .0) (c .before .before .blit-row .ensures), (c .before .before .blit-row .kept .0 ∙ l .inv .1 .0, (omega arith, omega arith)))
+    let row = c .before .before .blit-row in (
+      next-from (a .r) (a .width) (a .src-w) (a .table) (a .pat) (a .src .now) (a .pixels .now) (s .pre) (l .y) (l .inv .1 .1 .0) (c .before .before .before .before .loop-test .taken) (l .inv .0) (row .ensures),
+      (row .kept .0 ∙ l .inv .1 .0, (omega arith, omega arith)),
+    )
 
 same-length : tie.Need-same-length Inv-loop μ-loop
 same-length c = search needs

@@ -12,22 +12,21 @@ draw-units-requires c κs =
 
 returns : tie.Need-returns
 returns c =
-    let a = c .before .before .before .before .before .before .before .before .before .before .before .before .before .args in
+    let s = c .before .before .before .before .before .before .before .before .before .before .before .before .before in
+    let a = s .args in
     let f = c .before .before .before .before .before .before .struct-told .given in
-    let r = c .before .before .fill-box-rop .ensures in
-    as-fill (a .units .now) (a .color .0) (a .width) (a .height) (a .pixels .now)
+    as-fill (a .units .now) (a .color .0) (a .width) (a .height) (a .pixels .now) (s .pre .0)
     (record { sfits = f .0 .1 }) (record { sfits = f .1 .0 .1 }) (record { sfits = f .1 .1 .0 .1 }) (record { sfits = f .1 .1 .1 .0 .1 })
-    (c .before .before .before .before .before .before .before .before .before .drawing .given .1) (r .0) (r .1)
+    (c .before .before .before .before .before .before .before .before .before .drawing .given .1) (c .before .before .fill-rect-rop .ensures)
 
 returns-2 : tie.Need-returns-2
 returns-2 c =
     let s = c .before .before .before .before .before .before .before .before .before .before .before .before .before in
     let a = s .args in
     let f = c .before .before .before .before .before .before .struct-told5 .given in
-    let r = c .before .before .stroke-box .ensures in
-    as-outline (a .units .now) (a .color .0) (a .width) (a .height) (a .pixels .now)
+    as-outline (a .units .now) (a .color .0) (a .width) (a .height) (a .pixels .now) (s .pre .0)
     (record { sfits = f .0 .1 }) (record { sfits = f .1 .0 .1 }) (record { sfits = f .1 .1 .0 .1 }) (record { sfits = f .1 .1 .1 .0 .1 })
-    (omega (arith, s .good .1 .1 .1 .1 .1 .0)) (c .before .before .before .before .before .before .before .before .before .drawing2 .given .1) (r .0) (r .1)
+    (omega (arith, s .good .1 .1 .1 .1 .1 .0)) (c .before .before .before .before .before .before .before .before .before .drawing2 .given .1) (c .before .before .stroke-rect .ensures)
 
 returns-3 : tie.Need-returns-3
 returns-3 c =

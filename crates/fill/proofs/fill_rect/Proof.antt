@@ -1,45 +1,23 @@
--- `fill::fill_rect` meets its contract: refused, or drawn by `fill_box`. Assumes nothing.
-use mathlib.Core.Path.{sym, _∙_}
-use lib.ListN.{length}
+-- `fill::fill_rect` meets its contract: that of `fill_rect_rop` at PATCOPY's code. Assumes nothing.
+use native.Mathlib.Omega.{arith}
 use borrow.Author.Needs.{needs}
 use Rattle.arithmetic.proofs.Machine.{stored32}
-use Rattle.surface.specs.Refusal.{refusal}
-use Rattle.surface.proofs.Accepted.{in-order}
-use Rattle.surface.proofs.Answers.{accepted-answer, accepted-bytes, refused-answer, refused-bytes}
-use Rattle.fill.specs.Fill.{filled, fillMarks}
+use Rattle.fill.proofs.Box.{patcopy-filled}
 use Rattle.fill.proofs.fill_rect.Statement.{statement}
 use Rattle.fill.proofs.fill_rect.Tie as tie
 
-refusal-requires : tie.Need-refusal-requires
-refusal-requires c κs = search needs
-
-fill-box-requires : tie.Need-fill-box-requires
-fill-box-requires c κs =
-    let a = c .before .before .before .before .args in
-    in-order (a .width) (a .height) (length (a .pixels .now)) (sym (c .before .before .refusal .ensures) ∙ c .before .if1 .taken)
+fill-rect-rop-requires : tie.Need-fill-rect-rop-requires
+fill-rect-rop-requires c κs = search needs
 
 same-length : tie.Need-same-length
 same-length c = search needs
 
 returns : tie.Need-returns
 returns c =
-    let s = c .before .before .before .before .before .before .before in
+    let s = c .before .before .before .before .before in
     let a = s .args in
-    let N = refusal (a .width) (a .height) (length (a .pixels .now)) in
-    let is = c .before .before .before .before .before .refusal .ensures in
-    let zero = c .before .before .before .before .if1 .taken in (
-      accepted-answer N is zero (c .before .before .fill-box .ensures .0 ∙ rw (stored32 (a .x) (s .fits .x), stored32 (a .y) (s .fits .y), stored32 (a .w) (s .fits .w), stored32 (a .h) (s .fits .h))),
-      accepted-bytes N is zero (filled (a .width) (a .x) (a .y) (a .w) (a .h) (a .color .0) (a .pixels .now)) (a .pixels .now) (c .before .before .fill-box .ensures .1 ∙ rw (stored32 (a .x) (s .fits .x), stored32 (a .y) (s .fits .y), stored32 (a .w) (s .fits .w), stored32 (a .h) (s .fits .h))),
-    )
-
-returns-2 : tie.Need-returns-2
-returns-2 c =
-    let a = c .before .before .before .args in
-    let N = refusal (a .width) (a .height) (length (a .pixels .now)) in
-    let is = c .before .refusal .ensures in (
-      refused-answer N is (c .if1 .left) (fillMarks (a .width) (a .height) (a .x) (a .y) (a .w) (a .h)),
-      refused-bytes N is (c .if1 .left) (filled (a .width) (a .x) (a .y) (a .w) (a .h) (a .color .0) (a .pixels .now)) (a .pixels .now),
-    )
+    patcopy-filled (a .x) (a .y) (a .w) (a .h) (a .color .0) (a .width) (a .height) (a .pixels .now) (omega (arith, s .good))
+    (rw (stored32 (a .x) (s .fits .x), stored32 (a .y) (s .fits .y), stored32 (a .w) (s .fits .w), stored32 (a .h) (s .fits .h)) at (c .before .before .fill-rect-rop .ensures))
 
 pub fill-rect-spec : {M : Type 1} → statement M
-fill-rect-spec = tie.close (tie.spec refusal-requires fill-box-requires same-length returns returns-2)
+fill-rect-spec = tie.close (tie.spec fill-rect-rop-requires same-length returns)

@@ -36,13 +36,17 @@ same-length c = search needs
 
 returns : tie.Need-returns
 returns c =
-    let a = c .before .before .before .before .before .before .before .before .before .before .before .before .before .before .before .before .before .before .before .before .before .args in
+    let fourth = c .before .before .before .before in
+    let third = fourth .before .before .before .before in
+    let second = third .before .before .before .before in
+    let first = second .before .before .before .before in
+    let a = first .before .before .before .before .before .args in
     row-next (a .row) 0 (a .d) 4 (a .color) (a .pixels .now)
     (row-next (a .row) 0 (a .d) 3 (a .color) (a .pixels .now)
     (row-next (a .row) 0 (a .d) 2 (a .color) (a .pixels .now)
-    (row-next (a .row) 0 (a .d) 1 (a .color) (a .pixels .now) (c .before .before .before .before .before .before .before .before .before .before .before .before .before .before .before .before .before .before .ink-word .ensures) (c .before .before .before .before .before .before .before .before .before .before .before .before .before .before .ink-word2 .ensures))
-    (c .before .before .before .before .before .before .before .before .before .before .ink-word3 .ensures))
-    (c .before .before .before .before .before .before .ink-word4 .ensures))
+    (row-next (a .row) 0 (a .d) 1 (a .color) (a .pixels .now) (first .before .before .ink-word .ensures) (second .before .before .ink-word2 .ensures))
+    (third .before .before .ink-word3 .ensures))
+    (fourth .before .before .ink-word4 .ensures))
     (c .before .before .ink-word5 .ensures)
 
 pub ink-five-spec : {M : Type 1} → statement M

@@ -12,11 +12,11 @@ module _ (c : tie.Start) where
   abbrev x : ℤ
   x = c .args .x
 
-  abbrev w : ℤ
-  w = c .args .w
-
   X : held64 (held32 x) ≡ x
   X = cast-held (c .fits .x)
+
+  abbrev w : ℤ
+  w = c .args .w
 
   W : held64 (held32 w) ≡ w
   W = cast-held (c .fits .w)

@@ -11,12 +11,6 @@ use Rattle.surface.proofs.Accepted.{side-range, bad-side, bad-length, n
 use Rattle.surface.proofs.refusal.Statement.{statement}
 use Rattle.surface.proofs.refusal.Tie as tie
 
-is-side-requires : tie.Need-is-side-requires
-is-side-requires c κs = search needs
-
-is-side-requires-2 : tie.Need-is-side-requires-2
-is-side-requires-2 c κs = search needs
-
 module _ (c : tie.Then2) where
   wide : side (c .before .before .before .before .args .width) ≡ true
   wide = sym (c .before .before .before .is-side .ensures) ∙ c .before .before .if1 .taken
@@ -26,6 +20,12 @@ module _ (c : tie.Then2) where
 
   room : c .before .before .before .before .args .width * c .before .before .before .before .args .height ≤ 4096 * 4096
   room = mul-le-mul (side-range (c .before .before .before .before .args .width) wide .1) (side-range (c .before .before .before .before .args .height) high .1)
+
+is-side-requires : tie.Need-is-side-requires
+is-side-requires c κs = search needs
+
+is-side-requires-2 : tie.Need-is-side-requires-2
+is-side-requires-2 c κs = search needs
 
 mul-if3 : tie.Need-mul-if3
 mul-if3 c = omega (arith, room c)

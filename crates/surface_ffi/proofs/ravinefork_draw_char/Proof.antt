@@ -1,21 +1,22 @@
--- `surface_ffi::ravinefork_draw_char` meets its contract: it is that of `text::draw_char`. Assumes nothing.
-use mathlib.Core.Path.{_∙_}
-use borrow.Author.Needs.{needs}
-use Rattle.arithmetic.proofs.Machine.{stored32}
-use Rattle.surface_ffi.proofs.ravinefork_draw_char.Statement.{statement}
-use Rattle.surface_ffi.proofs.ravinefork_draw_char.Tie as tie
+-- `surface_ffi::ravinefork_draw_char` meets its contract: the surface is made of its parts, and passed to `lent::draw_char`. Assumes nothing.
+use contract.Running.{givenOf, tables, tablesOf}
+use denote.Triple.Spec.{tripleOf}
+use denote.Triple.Table.{entered, cited}
+use Rattle.lent.proofs.Drawings.{draws-char}
+use Rattle.lent_surface.proofs.Operation.{OnSurface, it-says}
+use Rattle.lent_surface.proofs.Walks.{together-meets}
+use Rattle.lent.proofs.draw_char.Symbol as callee-def
+use Rattle.lent.proofs.draw_char.Symbol.{name as #lent·draw-char}
+use Rattle.lent.proofs.draw_char.Met as callee-thm
+use Rattle.surface_ffi.proofs.ravinefork_draw_char.Key.{name as #surface-ffi·ravinefork-draw-char}
+use Rattle.surface_ffi.proofs.ravinefork_draw_char as f
+use Rattle.surface_ffi.proofs.ravinefork_draw_char.Statement as stated
+use Rattle.surface_ffi.proofs.ravinefork_draw_char.Code as code
 
-draw-char-requires : tie.Need-draw-char-requires
-draw-char-requires c κs = search needs
-
-same-length : tie.Need-same-length
-same-length c = search needs
-
-returns : tie.Need-returns
-returns c =
-    let s = c .before .before .before .before .before in
-    let e = c .before .before .draw-char .ensures in
-    (e .0, e .1 ∙ rw (stored32 (s .args .x) (s .fits .x), stored32 (s .args .y) (s .fits .y)))
-
-pub ravinefork-draw-char-spec : {M : Type 1} → statement M
-ravinefork-draw-char-spec = tie.close (tie.spec draw-char-requires same-length returns)
+pub ravinefork-draw-char-spec : {M : Type 1} → stated.statement M
+unfolding code.routine tablesOf
+ravinefork-draw-char-spec 𝓤 H 𝓜 𝓖 𝓡 =
+    let T = tables 𝓤 H 𝓜 𝓡 code.env in
+    entered 𝓤 H (tripleOf 𝓤 H (𝓖 .A) f.signature (f.spec 𝓤 H (𝓖 .A) (𝓜 .mem) (𝓡 .run))) (T .C) (T .Λ) #surface-ffi·ravinefork-draw-char code.function (code.unfolded 𝓤 H 𝓜 𝓡)
+    (together-meets 𝓤 H (𝓖 .A) (givenOf 𝓤 H 𝓜 𝓖) draws-char #lent·draw-char (tablesOf 𝓤 H 𝓜 T) (f.clauses 𝓤 H (𝓖 .A) (𝓜 .mem) (𝓡 .run)) (λ κs a g r zs done. it-says 𝓤 done)
+    (cited 𝓤 H (OnSurface 𝓤 H (𝓖 .A) draws-char) 𝓜 𝓡 code.env #lent·draw-char callee-def.routine code.calls-lent·draw-char (callee-thm.met 𝓤 H 𝓜 𝓖 𝓡)))

@@ -1,21 +1,22 @@
--- `surface_ffi::ravinefork_draw_str_u16` meets its contract: it is that of `text::draw_str_u16`. Assumes nothing.
-use mathlib.Core.Path.{_∙_}
-use borrow.Author.Needs.{needs}
-use Rattle.arithmetic.proofs.Machine.{stored32}
-use Rattle.surface_ffi.proofs.ravinefork_draw_str_u16.Statement.{statement}
-use Rattle.surface_ffi.proofs.ravinefork_draw_str_u16.Tie as tie
+-- `surface_ffi::ravinefork_draw_str_u16` meets its contract: the surface is made of its parts, and passed to `lent::draw_str_u16`. Assumes nothing.
+use contract.Running.{givenOf, tables, tablesOf}
+use denote.Triple.Spec.{tripleOf}
+use denote.Triple.Table.{entered, cited}
+use Rattle.lent.proofs.Drawings.{draws-text}
+use Rattle.lent_surface.proofs.Operation.{OnSurface, it-says}
+use Rattle.lent_surface.proofs.Walks.{together-meets}
+use Rattle.lent.proofs.draw_str_u16.Symbol as callee-def
+use Rattle.lent.proofs.draw_str_u16.Symbol.{name as #lent·draw-str-u16}
+use Rattle.lent.proofs.draw_str_u16.Met as callee-thm
+use Rattle.surface_ffi.proofs.ravinefork_draw_str_u16.Key.{name as #surface-ffi·ravinefork-draw-str-u16}
+use Rattle.surface_ffi.proofs.ravinefork_draw_str_u16 as f
+use Rattle.surface_ffi.proofs.ravinefork_draw_str_u16.Statement as stated
+use Rattle.surface_ffi.proofs.ravinefork_draw_str_u16.Code as code
 
-draw-str-u16-requires : tie.Need-draw-str-u16-requires
-draw-str-u16-requires c κs = search needs
-
-same-length : tie.Need-same-length
-same-length c = search needs
-
-returns : tie.Need-returns
-returns c =
-    let s = c .before .before .before .before .before .before in
-    let e = c .before .before .draw-str-u16 .ensures in
-    (e .0, e .1 ∙ rw (stored32 (s .args .x) (s .fits .x), stored32 (s .args .y) (s .fits .y)))
-
-pub ravinefork-draw-str-u16-spec : {M : Type 1} → statement M
-ravinefork-draw-str-u16-spec = tie.close (tie.spec draw-str-u16-requires same-length returns)
+pub ravinefork-draw-str-u16-spec : {M : Type 1} → stated.statement M
+unfolding code.routine tablesOf
+ravinefork-draw-str-u16-spec 𝓤 H 𝓜 𝓖 𝓡 =
+    let T = tables 𝓤 H 𝓜 𝓡 code.env in
+    entered 𝓤 H (tripleOf 𝓤 H (𝓖 .A) f.signature (f.spec 𝓤 H (𝓖 .A) (𝓜 .mem) (𝓡 .run))) (T .C) (T .Λ) #surface-ffi·ravinefork-draw-str-u16 code.function (code.unfolded 𝓤 H 𝓜 𝓡)
+    (together-meets 𝓤 H (𝓖 .A) (givenOf 𝓤 H 𝓜 𝓖) draws-text #lent·draw-str-u16 (tablesOf 𝓤 H 𝓜 T) (f.clauses 𝓤 H (𝓖 .A) (𝓜 .mem) (𝓡 .run)) (λ κs a g r zs done. it-says 𝓤 done)
+    (cited 𝓤 H (OnSurface 𝓤 H (𝓖 .A) draws-text) 𝓜 𝓡 code.env #lent·draw-str-u16 callee-def.routine code.calls-lent·draw-str-u16 (callee-thm.met 𝓤 H 𝓜 𝓖 𝓡)))

@@ -1,21 +1,22 @@
--- `surface_ffi::ravinefork_fill_rect` meets its contract: it is that of `fill::fill_rect`. Assumes nothing.
-use mathlib.Core.Path.{_∙_}
-use borrow.Author.Needs.{needs}
-use Rattle.arithmetic.proofs.Machine.{stored32}
-use Rattle.surface_ffi.proofs.ravinefork_fill_rect.Statement.{statement}
-use Rattle.surface_ffi.proofs.ravinefork_fill_rect.Tie as tie
+-- `surface_ffi::ravinefork_fill_rect` meets its contract: the surface is made of its parts, and passed to `lent::fill_rect`. Assumes nothing.
+use contract.Running.{givenOf, tables, tablesOf}
+use denote.Triple.Spec.{tripleOf}
+use denote.Triple.Table.{entered, cited}
+use Rattle.lent.proofs.Drawings.{fills}
+use Rattle.lent_surface.proofs.Operation.{OnSurface, it-says}
+use Rattle.lent_surface.proofs.Walks.{together-meets}
+use Rattle.lent.proofs.fill_rect.Symbol as callee-def
+use Rattle.lent.proofs.fill_rect.Symbol.{name as #lent·fill-rect}
+use Rattle.lent.proofs.fill_rect.Met as callee-thm
+use Rattle.surface_ffi.proofs.ravinefork_fill_rect.Key.{name as #surface-ffi·ravinefork-fill-rect}
+use Rattle.surface_ffi.proofs.ravinefork_fill_rect as f
+use Rattle.surface_ffi.proofs.ravinefork_fill_rect.Statement as stated
+use Rattle.surface_ffi.proofs.ravinefork_fill_rect.Code as code
 
-fill-rect-requires : tie.Need-fill-rect-requires
-fill-rect-requires c κs = search needs
-
-same-length : tie.Need-same-length
-same-length c = search needs
-
-returns : tie.Need-returns
-returns c =
-    let s = c .before .before .before .before .before in
-    let e = c .before .before .fill-rect .ensures in
-    (e .0 ∙ rw (stored32 (s .args .x) (s .fits .x), stored32 (s .args .y) (s .fits .y), stored32 (s .args .w) (s .fits .w), stored32 (s .args .h) (s .fits .h)), e .1 ∙ rw (stored32 (s .args .x) (s .fits .x), stored32 (s .args .y) (s .fits .y), stored32 (s .args .w) (s .fits .w), stored32 (s .args .h) (s .fits .h)))
-
-pub ravinefork-fill-rect-spec : {M : Type 1} → statement M
-ravinefork-fill-rect-spec = tie.close (tie.spec fill-rect-requires same-length returns)
+pub ravinefork-fill-rect-spec : {M : Type 1} → stated.statement M
+unfolding code.routine tablesOf
+ravinefork-fill-rect-spec 𝓤 H 𝓜 𝓖 𝓡 =
+    let T = tables 𝓤 H 𝓜 𝓡 code.env in
+    entered 𝓤 H (tripleOf 𝓤 H (𝓖 .A) f.signature (f.spec 𝓤 H (𝓖 .A) (𝓜 .mem) (𝓡 .run))) (T .C) (T .Λ) #surface-ffi·ravinefork-fill-rect code.function (code.unfolded 𝓤 H 𝓜 𝓡)
+    (together-meets 𝓤 H (𝓖 .A) (givenOf 𝓤 H 𝓜 𝓖) fills #lent·fill-rect (tablesOf 𝓤 H 𝓜 T) (f.clauses 𝓤 H (𝓖 .A) (𝓜 .mem) (𝓡 .run)) (λ κs a g r zs done. it-says 𝓤 done)
+    (cited 𝓤 H (OnSurface 𝓤 H (𝓖 .A) fills) 𝓜 𝓡 code.env #lent·fill-rect callee-def.routine code.calls-lent·fill-rect (callee-thm.met 𝓤 H 𝓜 𝓖 𝓡)))

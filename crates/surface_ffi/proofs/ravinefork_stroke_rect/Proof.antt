@@ -1,21 +1,22 @@
--- `surface_ffi::ravinefork_stroke_rect` meets its contract: it is that of `outline::stroke_rect`. Assumes nothing.
-use mathlib.Core.Path.{_∙_}
-use borrow.Author.Needs.{needs}
-use Rattle.arithmetic.proofs.Machine.{stored32}
-use Rattle.surface_ffi.proofs.ravinefork_stroke_rect.Statement.{statement}
-use Rattle.surface_ffi.proofs.ravinefork_stroke_rect.Tie as tie
+-- `surface_ffi::ravinefork_stroke_rect` meets its contract: the surface is made of its parts, and passed to `lent::stroke_rect`. Assumes nothing.
+use contract.Running.{givenOf, tables, tablesOf}
+use denote.Triple.Spec.{tripleOf}
+use denote.Triple.Table.{entered, cited}
+use Rattle.lent.proofs.Drawings.{strokes}
+use Rattle.lent_surface.proofs.Operation.{OnSurface, it-says}
+use Rattle.lent_surface.proofs.Walks.{together-meets}
+use Rattle.lent.proofs.stroke_rect.Symbol as callee-def
+use Rattle.lent.proofs.stroke_rect.Symbol.{name as #lent·stroke-rect}
+use Rattle.lent.proofs.stroke_rect.Met as callee-thm
+use Rattle.surface_ffi.proofs.ravinefork_stroke_rect.Key.{name as #surface-ffi·ravinefork-stroke-rect}
+use Rattle.surface_ffi.proofs.ravinefork_stroke_rect as f
+use Rattle.surface_ffi.proofs.ravinefork_stroke_rect.Statement as stated
+use Rattle.surface_ffi.proofs.ravinefork_stroke_rect.Code as code
 
-stroke-rect-requires : tie.Need-stroke-rect-requires
-stroke-rect-requires c κs = search needs
-
-same-length : tie.Need-same-length
-same-length c = search needs
-
-returns : tie.Need-returns
-returns c =
-    let s = c .before .before .before .before .before in
-    let e = c .before .before .stroke-rect .ensures in
-    (e .0 ∙ rw (stored32 (s .args .w) (s .fits .w), stored32 (s .args .h) (s .fits .h)), e .1 ∙ rw (stored32 (s .args .x) (s .fits .x), stored32 (s .args .y) (s .fits .y), stored32 (s .args .w) (s .fits .w), stored32 (s .args .h) (s .fits .h)))
-
-pub ravinefork-stroke-rect-spec : {M : Type 1} → statement M
-ravinefork-stroke-rect-spec = tie.close (tie.spec stroke-rect-requires same-length returns)
+pub ravinefork-stroke-rect-spec : {M : Type 1} → stated.statement M
+unfolding code.routine tablesOf
+ravinefork-stroke-rect-spec 𝓤 H 𝓜 𝓖 𝓡 =
+    let T = tables 𝓤 H 𝓜 𝓡 code.env in
+    entered 𝓤 H (tripleOf 𝓤 H (𝓖 .A) f.signature (f.spec 𝓤 H (𝓖 .A) (𝓜 .mem) (𝓡 .run))) (T .C) (T .Λ) #surface-ffi·ravinefork-stroke-rect code.function (code.unfolded 𝓤 H 𝓜 𝓡)
+    (together-meets 𝓤 H (𝓖 .A) (givenOf 𝓤 H 𝓜 𝓖) strokes #lent·stroke-rect (tablesOf 𝓤 H 𝓜 T) (f.clauses 𝓤 H (𝓖 .A) (𝓜 .mem) (𝓡 .run)) (λ κs a g r zs done. it-says 𝓤 done)
+    (cited 𝓤 H (OnSurface 𝓤 H (𝓖 .A) strokes) 𝓜 𝓡 code.env #lent·stroke-rect callee-def.routine code.calls-lent·stroke-rect (callee-thm.met 𝓤 H 𝓜 𝓖 𝓡)))

@@ -13,7 +13,7 @@ use Rattle.words.proofs.Painted.{painted-none, painted-cong}
 use Rattle.surface.specs.Region.{wordsOf}
 use Rattle.surface.specs.Refusal.{refusal}
 use Rattle.surface.proofs.Accepted.{in-order}
-use Rattle.surface.proofs.Answers.{accepted-answer, accepted-bytes, refused-answer, refused-bytes}
+use Rattle.surface.proofs.Answers.{drawn-done, drawing-refused}
 use Rattle.text.specs.Ink.{printable, glyphInk, charInk}
 use Rattle.glyph.specs.Inner.{bitmapInk}
 use Rattle.glyph.proofs.Glyph.{glyph-narrow}
@@ -29,9 +29,6 @@ module _ (c : tie.Start) where
 
   abbrev ink : ℕ → Bool
   ink = wordsOf (c .args .width) (charInk (c .args .x) (c .args .y) (c .args .ch))
-
-  abbrev new : List ℕ
-  new = painted ink (λ _. c .args .color .0) (c .args .pixels .now)
 
 -- printable
 module _ (c : tie.Then2) where
@@ -69,14 +66,12 @@ returns c =
     let is = d .before .before .before .refusal .ensures in
     let e = d .before .before .if1 .taken in
     let s = d .before .before .before .before .before in
-    let a = s .args in (
-      accepted-answer (number s) is e refl,
-      accepted-bytes (number s) is e (new s) (a .pixels .now)
-          (c .before .before .draw-glyph .ensures
-          ∙ ap (λ (rows : List ℕ). painted (wordsOf (a .width) (bitmapInk (held32 (a .x) +ℤ pos 0) (held32 (a .y)) rows)) (λ _. a .color .0) (a .pixels .now)) (c .before .before .before .before .glyph .ensures)
-          ∙ painted-cong (wordsOf (a .width) (glyphInk (held32 (a .x) +ℤ pos 0) (held32 (a .y)) (a .ch - 0x20))) (ink s) (λ _. a .color .0) (a .pixels .now)
-          (λ i lt. rw (stored32 (a .x) (s .fits .x), stored32 (a .y) (s .fits .y)) (char-in (a .x) (a .y) (a .ch) (i % a .width) (i / a .width) (in-range d)))),
-    )
+    let a = s .args in
+    drawn-done (number s) is e refl
+    (c .before .before .draw-glyph .ensures
+    ∙ ap (λ (rows : List ℕ). painted (wordsOf (a .width) (bitmapInk (held32 (a .x) +ℤ pos 0) (held32 (a .y)) rows)) (λ _. a .color .0) (a .pixels .now)) (c .before .before .before .before .glyph .ensures)
+    ∙ painted-cong (wordsOf (a .width) (glyphInk (held32 (a .x) +ℤ pos 0) (held32 (a .y)) (a .ch - 0x20))) (ink s) (λ _. a .color .0) (a .pixels .now)
+    (λ i lt. rw (stored32 (a .x) (s .fits .x), stored32 (a .y) (s .fits .y)) (char-in (a .x) (a .y) (a .ch) (i % a .width) (i / a .width) (in-range d))))
 
 returns-2 : tie.Need-returns-2
 returns-2 c =
@@ -84,17 +79,14 @@ returns-2 c =
     let e = c .before .before .if1 .taken in
     let s = c .before .before .before .before .before in
     let a = s .args in
-    let out : printable (a .ch) ≡ false = sym (c .before .is-printable .ensures) ∙ c .if2 .left in (
-      accepted-answer (number s) is e refl,
-      accepted-bytes (number s) is e (new s) (a .pixels .now)
-          (painted-none (ink s) (λ _. a .color .0) (a .pixels .now) (λ i lt. char-out (a .x) (a .y) (a .ch) (i % a .width) (i / a .width) out)),
-    )
+    let out : printable (a .ch) ≡ false = sym (c .before .is-printable .ensures) ∙ c .if2 .left in
+    drawn-done (number s) is e refl
+    (painted-none (ink s) (λ _. a .color .0) (a .pixels .now) (λ i lt. char-out (a .x) (a .y) (a .ch) (i % a .width) (i / a .width) out))
 
 returns-3 : tie.Need-returns-3
 returns-3 c =
     let s = c .before .before .before in
-    let is = c .before .refusal .ensures in
-    (refused-answer (number s) is (c .if1 .left) false, refused-bytes (number s) is (c .if1 .left) (new s) (s .args .pixels .now))
+    drawing-refused (number s) (c .before .refusal .ensures) (c .if1 .left) false
 
 pub draw-char-spec : {M : Type 1} → statement M
 draw-char-spec =

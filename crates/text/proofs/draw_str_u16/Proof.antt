@@ -10,7 +10,7 @@ use Rattle.words.specs.Words.{painted}
 use Rattle.surface.specs.Region.{wordsOf}
 use Rattle.surface.specs.Refusal.{refusal}
 use Rattle.surface.proofs.Accepted.{in-order}
-use Rattle.surface.proofs.Answers.{accepted-bytes, refused-bytes, accepted-advance, refused-advance}
+use Rattle.surface.proofs.Answers.{written-done, writing-refused}
 use Rattle.text.specs.Ink.{textInk, unitCount, textRefusal}
 use Rattle.text.proofs.Answer.{text-drawn, text-long, text-refused}
 use Rattle.text.proofs.draw_str_u16.Statement.{statement}
@@ -68,25 +68,22 @@ returns c =
     let d = c .before .before .before .before .before in
     let s = S d in
     let few : count s ≤ 65535 = omega (arith, COUNT d, c .before .before .before .before .if2 .taken) in
-    let e : answer s ≡ 0 = text-drawn (number s) (count s) (accepted d) few in (
-      accepted-advance (answer s) (6 * d .unit-count .result) (6 * count s) e (omega (arith, COUNT d)),
-      accepted-bytes (answer s) (sym e) refl (text s (count s)) (s .args .pixels .now)
-          (c .before .before .draw-units .ensures ∙ rw (stored32 (s .args .x) (s .fits .x), stored32 (s .args .y) (s .fits .y)) (ap (text s) (COUNT d))),
-    )
+    written-done (answer s) (sym (text-drawn (number s) (count s) (accepted d) few)) refl (omega (arith, COUNT d))
+    (c .before .before .draw-units .ensures ∙ rw (stored32 (s .args .x) (s .fits .x), stored32 (s .args .y) (s .fits .y)) (ap (text s) (COUNT d)))
 
 returns-2 : tie.Need-returns-2
 returns-2 c =
     let d = c .before in
     let s = S d in
     let is : 10 ≡ answer s = sym (text-long (number s) (count s) (accepted d) (omega (arith, COUNT d, c .if2 .left))) in
-    (refused-advance (answer s) (6 * count s) is (λ e. omega arith), refused-bytes (answer s) is (λ e. omega arith) (text s (count s)) (s .args .pixels .now))
+    writing-refused (answer s) is (λ e. omega arith) (6 * count s)
 
 returns-3 : tie.Need-returns-3
 returns-3 c =
     let s = c .before .before .before .before in
     let found : c .before .refusal .result ≡ number s = c .before .refusal .ensures in
     let is : c .before .refusal .result ≡ answer s = found ∙ sym (text-refused (number s) (count s) (λ e. c .if1 .left (found ∙ e))) in
-    (refused-advance (answer s) (6 * count s) is (c .if1 .left), refused-bytes (answer s) is (c .if1 .left) (text s (count s)) (s .args .pixels .now))
+    writing-refused (answer s) is (c .if1 .left) (6 * count s)
 
 pub draw-str-u16-spec : {M : Type 1} → statement M
 draw-str-u16-spec =

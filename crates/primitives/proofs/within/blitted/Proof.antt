@@ -20,7 +20,7 @@ read-u16-requires c κs = search needs
 
 blit-within-requires : tie.Need-blit-within-requires
 blit-within-requires c κs =
-    let p = c .before .before .before .before .before .before .before .before .before .before .before .before .pre .1 in
+    let p = c .before .before .before .before .before .before .before .pre .1 in
     record {
       some = p .some;
       narrow = p .narrow;

@@ -1,22 +1,18 @@
--- `fill_rop::rop_rows` meets its contract. The invariant: the rows from y0 up to r are painted. Assumes nothing.
-use mathlib.Core.Path.{_≡_, refl, _∙_, ap}
+-- `fill::rop_rows` meets its contract. The invariant: the rows from y0 up to r are painted. Assumes nothing.
+use mathlib.Core.Path.{_≡_, refl, _∙_}
 use Prim.Native.Nat.{_+_, _-_, _*_, _≤_, max}
 use native.Mathlib.Nat.{mul-le-mul-right}
 use native.Mathlib.Omega.{arith}
 use lib.ListN.{length}
 use borrow.Author.Needs.{needs}
-use Rattle.words.specs.Words.{painted}
-use Rattle.rop3.specs.Rop3.{applied}
-use Rattle.raster.specs.Raster.{ropped}
-use Rattle.surface.specs.Region.{wordsOf}
-use Rattle.surface.proofs.Rows.{rect}
-use Rattle.fill.proofs.Rows.{rows-first, rows-next, row-kept, rows-done}
-use Rattle.fill_rop.proofs.rop_rows.Statement.{statement}
-use Rattle.fill_rop.proofs.rop_rows.Tie as tie
+use Rattle.fill.proofs.Rows.{rows-first, rows-next, rows-done}
+use Rattle.fill.specs.Inner.{roppedRect}
+use Rattle.fill.proofs.rop_rows.Statement.{statement}
+use Rattle.fill.proofs.rop_rows.Tie as tie
 
 abbrev Inv-loop : tie.InvT-loop
 Inv-loop pixels₀ width x0 columns y0 y1 table pat r₀ pixels r =
-    (pixels ≡ painted (wordsOf width (rect x0 (x0 + columns) y0 r)) (ropped table pat (λ _. 0) pixels₀) pixels₀) × ((length pixels ≡ length pixels₀) × ((y0 ≤ r) × (r ≤ max y0 y1)))
+    (pixels ≡ roppedRect width x0 (x0 + columns) y0 r table pat pixels₀) × ((length pixels ≡ length pixels₀) × ((y0 ≤ r) × (r ≤ max y0 y1)))
 
 abbrev μ-loop : tie.MeasureT-loop
 μ-loop pixels₀ width x0 columns y0 y1 table pat r₀ pixels r = y1 - r
@@ -30,7 +26,7 @@ fits c =
 loop-holds : tie.Need-loop-holds Inv-loop μ-loop
 loop-holds c =
     let a = c .before .args in
-    (rows-first (a .width) (a .x0) (a .columns) (a .y0) (ropped (a .table) (a .pat) (λ _. 0) (a .pixels .now)) (a .pixels .now), (refl, (omega arith, omega arith)))
+    (rows-first (a .width) (a .x0) (a .columns) (a .y0) (a .table) (a .pat) (a .pixels .now), (refl, (omega arith, omega arith)))
 
 mul-rop-run : tie.Need-mul-rop-run Inv-loop μ-loop
 mul-rop-run c = omega (arith, fits (c .before))
@@ -53,8 +49,7 @@ loop-again c =
     let s = c .before .before .before .before .before .before .before in
     let a = s .args in (
       c .before .before .rop-run .ensures
-          ∙ rows-next (a .width) (a .x0) (a .columns) (a .y0) (ropped (a .table) (a .pat) (λ _. 0) (a .pixels .now)) (a .pixels .now) (l .r) (s .pre .0) (s .pre .1 .0) (l .inv .1 .1 .0) (l .inv .0) (ropped (a .table) (a .pat) (λ _. 0) (l .pixels))
-          (λ i on. ap (applied (a .table) (a .pat) 0) (row-kept (a .width) (a .x0) (a .columns) (a .y0) (ropped (a .table) (a .pat) (λ _. 0) (a .pixels .now)) (a .pixels .now) (l .r) (s .pre .0) (s .pre .1 .0) (l .inv .1 .1 .0) (l .inv .0) (omega (arith, fits (c .before .before .before .before))) i on)),
+          ∙ rows-next (a .width) (a .x0) (a .columns) (a .y0) (a .table) (a .pat) (a .pixels .now) (l .r) (s .pre .0) (s .pre .1 .0) (l .inv .1 .1 .0) (fits (c .before .before .before .before)) (l .inv .0),
       (c .before .before .rop-run .kept .0 ∙ l .inv .1 .0, (omega arith, omega arith)),
     )
 
@@ -66,7 +61,7 @@ returns c =
     let l = c .before .loop in
     let a = c .before .before .before .args in
     l .inv .0
-    ∙ rows-done (a .width) (a .x0) (a .columns) (a .y0) (ropped (a .table) (a .pat) (λ _. 0) (a .pixels .now)) (a .pixels .now) (l .r) (a .y1) (l .inv .1 .1 .0) (omega arith) (l .inv .1 .1 .1)
+    ∙ rows-done (a .width) (a .x0) (a .columns) (a .y0) (a .table) (a .pat) (a .pixels .now) (l .r) (a .y1) (l .inv .1 .1 .0) (omega arith) (l .inv .1 .1 .1)
 
 pub rop-rows-spec : {M : Type 1} → statement M
 rop-rows-spec =
