@@ -5,18 +5,10 @@ ghost use Rattle.ready.proofs.Ready.{Lent};
 ghost use Rattle.plan.specs.Drawing.{blit};
 ghost use Rattle.plan.specs.Answer.{partsOf};
 ghost use Rattle.plan.specs.Followed.{Followed, OnBoth};
-use draw::NO_DC;
-use draw::NO_SURFACE;
 use place::Target;
 use plan::Answer;
 use plan::Area;
 use plan::Point;
-
-// Refusal: the source handle names no DC.
-pub const NO_SOURCE_DC: u32 = 3;
-
-// Refusal: the source DC has no surface.
-pub const NO_SOURCE_SURFACE: u32 = 4;
 
 // Blits from one DC to another. A code that does not use the source makes it a pattern fill, and the source handle is not checked.
 pub fn blit(
@@ -36,11 +28,11 @@ pub fn blit(
         return draw::pattern_fill(numbers, panel, store, dc, area, rop);
     }
     match place::target_of(numbers, dc) {
-        Target::NoDc => Answer::Refused(NO_DC),
-        Target::NoSurface => Answer::Refused(NO_SURFACE),
+        Target::NoDc => Answer::Refused(refusals::NO_DC),
+        Target::NoSurface => Answer::Refused(refusals::NO_SURFACE),
         Target::On(id, site, d) => match place::target_of(numbers, src) {
-            Target::NoDc => Answer::Refused(NO_SOURCE_DC),
-            Target::NoSurface => Answer::Refused(NO_SOURCE_SURFACE),
+            Target::NoDc => Answer::Refused(refusals::NO_SOURCE_DC),
+            Target::NoSurface => Answer::Refused(refusals::NO_SOURCE_SURFACE),
             Target::On(_, source, _) => {
                 let at = site.at;
                 let slot = site.slot;

@@ -1,5 +1,5 @@
 -- Definitions that only inner functions cite: no exported contract reaches them.
--- The rows of a clipped box, for the loops over them: where each is drawn, where it is taken from, and what some of them leave.
+-- The rows of a clipped box, for the loops over them: where each row is drawn, where its source is, and the bytes after some rows.
 use mathlib.Core.Bool.{Bool, _&&_}
 use mathlib.Core.List.{List}
 use Prim.Native.Nat.{ℕ, _+_, _-_, _*_, _/_, _%_, _≤_, _<_}
@@ -23,21 +23,21 @@ rowAt box width y = y * width + box .x0
 abbrev pub sourceRowAt : BlitRect → (src-w y : ℕ) → ℕ
 sourceRowAt box src-w y = (box .«src_y0» + (y - box .y0)) * src-w + box .«src_x0»
 
--- the word of the source that is taken for word i of the destination
+-- the word of the source for word i of the destination
 abbrev pub sourceFor : BlitRect → (width src-w i : ℕ) → ℕ
 sourceFor box width src-w i = sourceRowAt box src-w (i / width) + (i % width - box .x0)
 
--- row y's part of the source bytes, of which there are len, does not pass their end
+-- the part of the source bytes for row y does not pass their end; there are len bytes
 abbrev pub held : BlitRect → (src-w len y : ℕ) → Bool
 held box src-w len y = leb (2 * (sourceRowAt box src-w y + columns box)) len
 
--- memory m with row y drawn from other bytes, if they hold it
+-- memory m with row y drawn from other bytes, unless it passes their end
 unfoldable pub rowFrom : BlitRect → (width src-w table pat y : ℕ) → (src m : List ℕ) → List ℕ
 rowFrom box width src-w table pat y src m =
     painted (λ i. between (rowAt box width y) (rowAt box width y + columns box) i && held box src-w (length src) y)
     (ropped table pat (λ i. word src (sourceRowAt box src-w y + (i - rowAt box width y))) m) m
 
--- memory m with each row above y that they hold
+-- memory m with each such row above y
 unfoldable pub rowsFrom : BlitRect → (width src-w table pat y : ℕ) → (src m : List ℕ) → List ℕ
 rowsFrom box width src-w table pat y src m =
     painted (wordsOf width (λ c r. rect (box .x0) (box .x1) (box .y0) y c r && held box src-w (length src) r))
@@ -50,7 +50,7 @@ pub record Across (width : ℕ) (box : BlitRect) : Type 0 where
   pub rows-ordered : box .y0 ≤ box .y1
   pub right : box .x1 ≤ width
 
--- The box lies on a destination of len bytes. The source's words can be counted.
+-- The box lies on a destination of len bytes. The number of the source's words fits a machine word.
 pub record RoomFrom (len width src-w : ℕ) (box : BlitRect) : Type 0 where
   pub across : Across width box
   pub bottom : 2 * (box .y1 * width) ≤ len

@@ -12,7 +12,7 @@ use clip_blit::BlitRect;
 use color::Rgb565;
 use surface::Drawn;
 
-// A blit's numbers: the destination's sides, where to, where from, how much, and the source's sides.
+// The numbers of a blit: the destination's sides, its box, the point in the source, and the source's sides.
 pub struct Blit {
     pub width: u32,
     pub height: u32,
@@ -26,7 +26,7 @@ pub struct Blit {
     pub src_h: u32,
 }
 
-// The w by h pixels at sx, sy of src, drawn at dx, dy. A row whose part of src passes its end is skipped.
+// Blits the w by h pixels at sx, sy of src to dx, dy under a raster code. A row whose part of src passes its end is skipped.
 pub fn blit_from_bytes_rop(
     pixels: &mut [u8],
     width: u32,
@@ -68,7 +68,7 @@ pub fn blit_from_bytes_rop(
     }
 }
 
-// The same on a surface that is in order. Whether a mark is due.
+// The same on a surface whose sides and length were checked. Returns whether a dirty mark is due.
 pub fn blit_from(pixels: &mut [u8], b: Blit, src: &[u8], rop: u32, pat: Rgb565) -> bool
     requires { ⌜ InOrder (b .width) (b .height) (length (now pixels)) × (b .«src_w» ≤ 4096) ⌝ }
     ensures { λ r. ⌜ r ≡ marks b ⌝ }
@@ -82,7 +82,7 @@ pub fn blit_from(pixels: &mut [u8], b: Blit, src: &[u8], rop: u32, pat: Rgb565) 
     true
 }
 
-// The part of a blit that is drawn.
+// Returns the part of a blit that is drawn.
 pub fn clip_of(b: Blit) -> BlitRect
     ensures { λ r. ⌜ r ≡ clipped b ⌝ }
 {
@@ -100,7 +100,7 @@ pub fn clip_of(b: Blit) -> BlitRect
     )
 }
 
-// Whether a box has no pixel.
+// Returns whether a box has no pixel.
 pub fn is_empty(r: BlitRect) -> bool
     ensures { λ e. ⌜ e ≡ not (nonempty (r .x0) (r .x1) (r .y0) (r .y1)) ⌝ }
 {
@@ -110,7 +110,7 @@ pub fn is_empty(r: BlitRect) -> bool
     r.y1 <= r.y0
 }
 
-// The rows of a box from other bytes.
+// Draws the rows of a box from other bytes.
 fn blit_rows(
     pixels: &mut [u8],
     width: u32,
@@ -128,7 +128,7 @@ fn blit_rows(
     }
 }
 
-// Row y of them, unless its part of src passes the end.
+// Draws row y, unless its part of src passes the end.
 fn blit_row(
     pixels: &mut [u8],
     width: u32,
@@ -151,7 +151,7 @@ fn blit_row(
     }
 }
 
-// The row of the source that row y of a box is taken from.
+// Returns the row of the source for row y of a box.
 pub fn source_row(r: BlitRect, y: u32) -> usize
     requires { ⌜ r .y0 ≤ y ⌝ }
     ensures { λ row. ⌜ row ≡ r .«src_y0» + (y - r .y0) ⌝ }

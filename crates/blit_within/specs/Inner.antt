@@ -22,7 +22,7 @@ blitWithin b at src-at table pat m =
     painted (λ i. between at (at + b .width * b .height) i && wordsOf (b .width) (region b) (i - at))
     (ropped table pat (λ i. word m (src-at + sourceWord b ((i - at) % b .width) ((i - at) / b .width))) m) m
 
--- Both surfaces lie in a memory of len bytes, and they are one or have no word in common.
+-- Both surfaces lie in a memory of len bytes, and they are the same or have no word in common.
 pub record Placed (len at src-at : ℕ) (b : Blit) : Type 0 where
   pub some : 0 < b .width
   pub narrow : b .width ≤ 4096
@@ -47,7 +47,7 @@ rowsWithin box at width src-at src-w table pat top bottom m =
     painted (rowsAt box at width top bottom)
     (ropped table pat (λ i. word m (src-at + sourceFor box width src-w (i - at))) m) m
 
--- The box and its source lie on surfaces of one memory of len bytes, which are one or have no row of theirs in common.
+-- The box and its source lie on surfaces of one memory of len bytes, which are the same or have no row in common.
 pub record RoomWithin (len at width src-at src-w : ℕ) (box : BlitRect) : Type 0 where
   pub across : Across width box
   pub bottom : 2 * (at + box .y1 * width) ≤ len

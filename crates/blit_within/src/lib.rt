@@ -17,8 +17,8 @@ pub struct Pair {
     pub src_w: u32,
 }
 
-// A blit between two surfaces of one memory, or within one. at and src_at are the words where they begin. The source pixels
-// are those before the call. Whether a mark is due.
+// Blits between two surfaces of one memory, or within one. at and src_at are the words where they begin. The source pixels are
+// those before the call. Returns whether a dirty mark is due.
 pub fn blit_within(mem: &mut [u8], at: usize, src_at: usize, b: Blit, rop: u32, pat: Rgb565) -> bool
     requires { ⌜ Placed (length (now mem)) at «src_at» b ⌝ }
     ensures { λ r. ⌜ r ≡ marks b ⌝ }
@@ -38,7 +38,7 @@ pub fn blit_within(mem: &mut [u8], at: usize, src_at: usize, b: Blit, rop: u32, 
     true
 }
 
-// The rows of a box within one memory. They are drawn in an order in which none is read after it is drawn.
+// Draws the rows of a box within one memory, in an order in which none is read after it was drawn.
 fn rows_within(mem: &mut [u8], p: Pair, r: BlitRect, table: u8, pat: u16)
     requires { ⌜ RoomWithin (length (now mem)) (p .at) (p .width) (p .«src_at») (p .«src_w») r ⌝ }
     ensures { λ _. ⌜ now (mem .exit) ≡ rowsWithin r (p .at) (p .width) (p .«src_at») (p .«src_w») table pat (r .y0) (r .y1) (now (mem .entry)) ⌝ }
@@ -74,7 +74,7 @@ fn rows_backward(mem: &mut [u8], p: Pair, r: BlitRect, table: u8, pat: u16)
     }
 }
 
-// Row y of the box.
+// Draws row y of the box.
 fn row_within(mem: &mut [u8], p: Pair, r: BlitRect, y: u32, table: u8, pat: u16)
     requires { ⌜ RoomWithin (length (now mem)) (p .at) (p .width) (p .«src_at») (p .«src_w») r ⌝ }
     requires { ⌜ (r .y0 ≤ y) × (y < r .y1) ⌝ }

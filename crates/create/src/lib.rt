@@ -19,14 +19,7 @@ use gdi::Pen;
 use numbers::COUNT;
 use numbers::STORE_LEN;
 use plan::Answer;
-use surface::BAD_SIDE;
 use surface::MAX_SIDE;
-
-// Refusal: the object table is full.
-pub const TABLE_FULL: u32 = 5;
-
-// Refusal: the bitmap does not fit the store.
-pub const STORE_FULL: u32 = 7;
 
 // Appends an object to the table and zeroes its pixels. Returns its handle.
 fn make(numbers: &mut [u32], store: &mut [u8], object: GdiObject) -> Answer
@@ -36,12 +29,12 @@ fn make(numbers: &mut [u32], store: &mut [u8], object: GdiObject) -> Answer
 {
     let count = numbers[COUNT] as usize;
     if count >= MAX_OBJECTS {
-        return Answer::Refused(TABLE_FULL);
+        return Answer::Refused(refusals::TOO_MANY_OBJECTS);
     }
     let start = sound::start_of(numbers, count);
     let n = sound::object_bytes(object);
     if start + n > numbers[STORE_LEN] as usize {
-        return Answer::Refused(STORE_FULL);
+        return Answer::Refused(refusals::TOO_SHORT);
     }
     memory::zero(store, start, n);
     let h = handles::alloc_handle(numbers);
@@ -66,10 +59,10 @@ pub fn create_compatible_bitmap(
     ensures { λ r. ⌜ OnStore (λ n. Followed (createBitmap (view n) width height) n) numbers store (partsOf r) ⌝ }
 {
     if width > MAX_SIDE {
-        return Answer::Refused(BAD_SIDE);
+        return Answer::Refused(refusals::SIDE);
     }
     if height > MAX_SIDE {
-        return Answer::Refused(BAD_SIDE);
+        return Answer::Refused(refusals::SIDE);
     }
     let w = side_of(width);
     let h = side_of(height);

@@ -6,8 +6,6 @@ ghost use Rattle.plan.specs.Drawing.{text};
 ghost use Rattle.plan.specs.Answer.{partsOf};
 ghost use Rattle.plan.specs.Followed.{Followed, OnBoth};
 use canvas::Drawing;
-use draw::NO_DC;
-use draw::NO_SURFACE;
 use place::Target;
 use plan::Answer;
 use plan::Point;
@@ -25,12 +23,12 @@ pub fn text_out(
     ensures { λ r. ⌜ OnBoth (λ n. Followed (text (view n) (now (units .entry)) dc at) n) numbers panel store (partsOf r) ⌝ }
 {
     match place::target_of(numbers, dc) {
-        Target::NoDc => Answer::Refused(NO_DC),
-        Target::NoSurface => Answer::Refused(NO_SURFACE),
+        Target::NoDc => Answer::Refused(refusals::NO_DC),
+        Target::NoSurface => Answer::Refused(refusals::NO_SURFACE),
         Target::On(id, site, d) => {
             let count = text::unit_count(units);
             if text::MAX_UNITS < count {
-                return Answer::Refused(surface::TOO_MANY_UNITS);
+                return Answer::Refused(refusals::TEXT_TOO_LONG);
             }
             let ink = color::colorref_to_rgb565(d.text_color);
             draw::draw(

@@ -9,7 +9,7 @@ use clip::Rect;
 use color::Rgb565;
 use surface::Drawn;
 
-// The w by h pixels at x, y in one colour: fill_rect_rop under PATCOPY.
+// Fills the w by h pixels at x, y with one colour: fill_rect_rop under PATCOPY.
 pub fn fill_rect(
     pixels: &mut [u8],
     width: u32,
@@ -25,7 +25,7 @@ pub fn fill_rect(
     fill_rect_rop(pixels, width, height, x, y, w, h, color, rop3::PATCOPY)
 }
 
-// Pattern and destination under a raster code, at the w by h pixels at x, y. The source operand is 0.
+// Combines pattern and destination under a raster code at the w by h pixels at x, y. The source operand is 0.
 pub fn fill_rect_rop(
     pixels: &mut [u8],
     width: u32,
@@ -51,7 +51,7 @@ pub fn fill_rect_rop(
     }
 }
 
-// Pattern and destination under a table, at the pixels of a rectangle of the surface. Whether it has any.
+// Combines pattern and destination under a table at the pixels of a clipped rectangle. Returns whether it has any.
 pub fn rop_rect(pixels: &mut [u8], width: u32, r: Rect, table: u8, pat: u16) -> bool
     requires { ⌜ (0 < width) × ((r .x1 ≤ width) × (2 * (r .y1 * width) ≤ length (now pixels))) ⌝ }
     ensures { λ some. ⌜ some ≡ nonempty (r .x0) (r .x1) (r .y0) (r .y1) ⌝ }
@@ -77,7 +77,7 @@ pub fn rop_rect(pixels: &mut [u8], width: u32, r: Rect, table: u8, pat: u16) -> 
     true
 }
 
-// The same in some columns from x0 on of rows y0 .. y1.
+// The same in the columns from x0 on of rows y0 .. y1.
 fn rop_rows(
     pixels: &mut [u8],
     width: usize,

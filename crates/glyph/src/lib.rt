@@ -10,14 +10,14 @@ ghost use Rattle.surface.specs.Region.{wordsOf};
 ghost use Rattle.surface.proofs.Accepted.{InOrder};
 ghost use Rattle.glyph.specs.Inner.{rowInk, bitmapInk, Narrow, Shown};
 
-// The coordinates from .. to of a surface's side; the first of them lies skip past where a glyph starts.
+// The coordinates from .. to of a surface's side; the first of them is skip past the start of a glyph.
 pub struct Stretch {
     pub from: u32,
     pub to: u32,
     pub skip: u32,
 }
 
-// The rows of a glyph with its upper left corner at x + dx, y. Their ink lies in the first five columns.
+// Draws the rows of a glyph with its upper left corner at x + dx, y. Their ink is in the first five columns.
 pub fn draw_glyph(
     pixels: &mut [u8],
     width: u32,
@@ -46,7 +46,7 @@ pub fn draw_glyph(
     }
 }
 
-// The coordinates of a side that n coordinates from x + dx on cover.
+// Returns the coordinates of a side that n coordinates from x + dx on cover.
 pub fn cut(x: i32, dx: u32, n: u32, side: u32) -> Stretch
     requires { ⌜ n ≤ 8 ⌝ }
     ensures { λ r. ⌜ Shown (x +ℤ pos dx) n side r ⌝ }
@@ -59,8 +59,8 @@ pub fn cut(x: i32, dx: u32, n: u32, side: u32) -> Stretch
     }
 }
 
-// color at the n words from d on where the row has ink, from its column skip on. A row without ink and a whole one are done
-// without the loop.
+// Stores color at the n words from d on where the row has ink, from its column skip on. A row without ink is skipped; a whole row
+// needs no loop.
 fn ink_row(pixels: &mut [u8], d: usize, n: usize, row: u8, skip: usize, color: u16)
     requires { ⌜ (2 * (d + n) ≤ length (now pixels)) × (skip + n ≤ 8) ⌝ }
     ensures { λ _. ⌜ now (pixels .exit) ≡ painted (rowInk row skip d n) (λ _. color) (now (pixels .entry)) ⌝ }
@@ -99,7 +99,7 @@ fn ink_run(pixels: &mut [u8], d: usize, n: usize, row: u8, skip: usize, color: u
     }
 }
 
-// color at word i if the row has ink at its column k. The word is stored in either case, so that the choice needs no branch.
+// Stores color at word i if the row has ink at its column k. The word is stored in either case, so that no branch depends on it.
 fn ink_word(pixels: &mut [u8], i: usize, row: u8, k: usize, color: u16)
     requires { ⌜ (2 * i + 1 < length (now pixels)) × (k < 8) ⌝ }
     ensures { λ _. ⌜ now (pixels .exit) ≡ painted (rowInk row k i 1) (λ _. color) (now (pixels .entry)) ⌝ }
@@ -108,7 +108,7 @@ fn ink_word(pixels: &mut [u8], i: usize, row: u8, k: usize, color: u16)
     words::set_word(pixels, i, inked_or(row, k, color, old));
 }
 
-// color if the row has ink at its column k, else old.
+// Returns color if the row has ink at its column k, else old.
 fn inked_or(row: u8, k: usize, color: u16, old: u16) -> u16
     requires { ⌜ k < 8 ⌝ }
     ensures { λ r. ⌜ r ≡ cond (inkAt row k) color old ⌝ }

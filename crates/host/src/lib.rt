@@ -12,9 +12,6 @@ use host_reply::Reply;
 use plan::Answer;
 use surface::MAX_SIDE;
 
-// Refusal: the numbers are not a call.
-pub const NO_CALL: u32 = 255;
-
 // Opens a device (`open::open`). Returns the number of the refusal, 0 if the open is accepted.
 #[no_mangle]
 pub extern "C" fn ravinefork_open(
@@ -41,7 +38,7 @@ pub extern "C" fn ravinefork_perform(
     ensures { λ r. ⌜ OnBoth (HostPerformed call (now (units .entry))) numbers panel store r ⌝ }
 {
     match host_call::call_of(call) {
-        ParsedCall::NoCall => host_reply::reply_of(Answer::Refused(NO_CALL)),
+        ParsedCall::NoCall => host_reply::reply_of(Answer::Refused(refusals::NO_CALL)),
         ParsedCall::Is(c) => {
             let answer = perform::perform(numbers, c, units, panel, store);
             host_reply::reply_of(answer)

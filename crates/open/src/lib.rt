@@ -20,14 +20,6 @@ use numbers::SLOTS;
 use numbers::STOCK_DIRTY;
 use numbers::STORE_LEN;
 use numbers::WIDTH;
-use ready::UNSOUND_RECORD;
-use surface::BAD_SIDE;
-
-// Refusal: a memory is longer than the limit.
-pub const TOO_LONG: u32 = 8;
-
-// Refusal: a memory is too short.
-pub const TOO_SHORT: u32 = 7;
 
 // Returns the number of the refusal, 0 if the open is accepted.
 fn refusal(width: u32, height: u32, panel_len: usize, store_len: usize) -> u32
@@ -36,21 +28,21 @@ fn refusal(width: u32, height: u32, panel_len: usize, store_len: usize) -> u32
     if surface::is_side(width) {
         if surface::is_side(height) {
             if panel_len > sound::MAX_MEMORY {
-                return TOO_LONG;
+                return refusals::LENGTH;
             }
             if store_len > sound::MAX_MEMORY {
-                return TOO_LONG;
+                return refusals::LENGTH;
             }
             if panel_len < 2 * ((width as usize) * (height as usize)) {
-                return TOO_SHORT;
+                return refusals::TOO_SHORT;
             }
             if store_len < 2 {
-                return TOO_SHORT;
+                return refusals::TOO_SHORT;
             }
             return 0;
         }
     }
-    BAD_SIDE
+    refusals::SIDE
 }
 
 // Opens a device with a panel of these sides. Returns the number of the refusal, 0 if the open is accepted: then the panel and the
@@ -59,7 +51,7 @@ pub fn open(numbers: &mut [u32], panel: &mut [u8], store: &mut [u8], width: u32,
     ensures { λ r. ⌜ OnBoth (Opened width height) numbers panel store r ⌝ }
 {
     if numbers.len() != RECORD {
-        return UNSOUND_RECORD;
+        return refusals::UNSOUND_RECORD;
     }
     let no = refusal(width, height, panel.len(), store.len());
     if no != 0 {

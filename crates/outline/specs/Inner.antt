@@ -1,5 +1,5 @@
 -- Definitions that only inner functions cite: no exported contract reaches them.
--- What the code draws of an outline: four sides between the clipped edges of the box.
+-- An outline as the code draws it: four sides between the clipped edges of the box.
 use mathlib.Core.Bool.{Bool, _||_}
 use Prim.Native.Nat.{ℕ, _*_, _≤_, _<_}
 use lib.IntN.{ℤ, pos, _+ℤ_, _-ℤ_}
@@ -7,7 +7,7 @@ use Rattle.clip.specs.Clip.{nearest}
 use Rattle.surface.proofs.Rows.{rect}
 use Rattle.outline.specs.declared.Edges.{Edges}
 
--- the first and the last coordinate of x .. x + w, each with the one behind it, on 0 .. side
+-- the first and the last coordinate of x .. x + w, each with the one after it, clipped to 0 .. side
 unfoldable pub edgesOf : ℤ → ℤ → ℕ → Edges
 edgesOf x w side = record {
   from = nearest x side;

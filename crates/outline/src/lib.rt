@@ -11,7 +11,7 @@ use clip::Rect;
 use color::Rgb565;
 use surface::Drawn;
 
-// The first coordinate of a stretch is from .. second, the last one last .. to, as far as they lie on a side.
+// The first and the last coordinate of an interval, as far as they lie on a side: from .. second, and last .. to.
 pub struct Edges {
     pub from: u32,
     pub second: u32,
@@ -19,7 +19,7 @@ pub struct Edges {
     pub to: u32,
 }
 
-// The outline of the w by h pixels at x, y. It marks whenever w and h are positive.
+// Draws the outline of the w by h pixels at x, y. It makes a dirty mark whenever w and h are positive.
 pub fn stroke_rect(
     pixels: &mut [u8],
     width: u32,
@@ -48,7 +48,7 @@ pub fn stroke_rect(
     }
 }
 
-// Whether both extents are positive.
+// Returns whether both extents are positive.
 fn is_extent(w: i32, h: i32) -> bool
     ensures { λ r. ⌜ r ≡ outlineMarks w h ⌝ }
 {
@@ -58,7 +58,7 @@ fn is_extent(w: i32, h: i32) -> bool
     0 < h
 }
 
-// The edges of x .. x + w on a side. The sums are exact.
+// Returns the edges of x .. x + w on a side. The sums are exact.
 fn edges_of(x: i32, w: i32, side: u32) -> Edges
     ensures { λ r. ⌜ r ≡ edgesOf x w side ⌝ }
 {
@@ -72,7 +72,7 @@ fn edges_of(x: i32, w: i32, side: u32) -> Edges
     }
 }
 
-// The four sides between the edges of columns, x, and of rows, y.
+// Draws the four sides between the edges of the columns, x, and of the rows, y.
 fn stroke_edges(pixels: &mut [u8], width: u32, x: Edges, y: Edges, color: u16)
     requires { ⌜ Framed width (length (now pixels)) x y ⌝ }
     ensures { λ _. ⌜ now (pixels .exit) ≡ painted (wordsOf width (sides x y)) (λ _. color) (now (pixels .entry)) ⌝ }
@@ -83,7 +83,7 @@ fn stroke_edges(pixels: &mut [u8], width: u32, x: Edges, y: Edges, color: u16)
     stroke_side(pixels, width, x.last, x.to, y.from, y.to, color);
 }
 
-// Columns x0 .. x1 of rows y0 .. y1 in one colour.
+// Fills columns x0 .. x1 of rows y0 .. y1 with one colour.
 fn stroke_side(pixels: &mut [u8], width: u32, x0: u32, x1: u32, y0: u32, y1: u32, color: u16)
     requires { ⌜ (0 < width) × ((x1 ≤ width) × (2 * (y1 * width) ≤ length (now pixels))) ⌝ }
     ensures { λ _. ⌜ now (pixels .exit) ≡ painted (wordsOf width (rect x0 x1 y0 y1)) (λ _. color) (now (pixels .entry)) ⌝ }

@@ -16,11 +16,7 @@ use numbers::PANEL_LEN;
 use numbers::WIDTH;
 use place::SurfaceId;
 use plan::Answer;
-use surface::BAD_SIDE;
 use surface::MAX_SIDE;
-
-// Refusal: the size does not fit the panel memory.
-pub const PANEL_TOO_SHORT: u32 = 7;
 
 // Fills the whole panel with one colour.
 pub fn fill(numbers: &mut [u32], panel: &mut [u8], color: Rgb565) -> Answer
@@ -42,14 +38,14 @@ pub fn resize(numbers: &mut [u32], panel: &mut [u8], width: u32, height: u32) ->
         return Answer::Drawn;
     }
     if MAX_SIDE < width {
-        return Answer::Refused(BAD_SIDE);
+        return Answer::Refused(refusals::SIDE);
     }
     if MAX_SIDE < height {
-        return Answer::Refused(BAD_SIDE);
+        return Answer::Refused(refusals::SIDE);
     }
     let n = 2 * ((width * height) as usize);
     if (numbers[PANEL_LEN] as usize) < n {
-        return Answer::Refused(PANEL_TOO_SHORT);
+        return Answer::Refused(refusals::TOO_SHORT);
     }
     memory::zero(panel, 0, n);
     set_sides(numbers, width, height);

@@ -17,12 +17,6 @@ use numbers::STORE_LEN;
 use numbers::WIDTH;
 use sound::MAX_MEMORY;
 
-// Refusal: the record is not sound.
-pub const UNSOUND_RECORD: u32 = 9;
-
-// Refusal: a memory's length is not the one in the record.
-pub const OTHER_LENGTH: u32 = 8;
-
 // Returns whether the numbers are a sound record.
 fn is_sound(numbers: &[u32]) -> bool
     ensures { λ r. ⌜ r ≡ (isRecord (now (numbers .entry)) && isSound (view (now (numbers .entry)))) ⌝ }
@@ -111,10 +105,10 @@ pub fn panel_refusal(numbers: &[u32], panel_len: usize) -> u32
     ensures { λ r. ⌜ r ≡ panelRefusalOn (now (numbers .entry)) «panel_len» ⌝ }
 {
     if !is_sound(numbers) {
-        return UNSOUND_RECORD;
+        return refusals::UNSOUND_RECORD;
     }
     if panel_len != numbers[PANEL_LEN] as usize {
-        return OTHER_LENGTH;
+        return refusals::LENGTH;
     }
     0
 }
@@ -128,7 +122,7 @@ pub fn common_refusal(numbers: &[u32], panel_len: usize, store_len: usize) -> u3
         return no;
     }
     if store_len != numbers[STORE_LEN] as usize {
-        return OTHER_LENGTH;
+        return refusals::LENGTH;
     }
     0
 }

@@ -17,7 +17,7 @@ module _ (s : List ℕ) (p : ℕ) where
   unfolding scriptCall
   arguments-cut h = rw (longer s p {n = 16} (omega arith) h) (simp either-bad)
 
-  -- n units are said to follow
+  -- the arguments say that n units follow
   module _ {n : ℕ} (e : n ≡ be32 s (p + 12)) where
     pub too-many : 70000 < n → Bad ≡ scriptCall 15 s p
     unfolding scriptCall

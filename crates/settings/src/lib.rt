@@ -8,9 +8,6 @@ use color::Colorref;
 use gdi::DcFound;
 use plan::Answer;
 
-// Refusal: the handle names no DC.
-pub const NO_DC: u32 = 1;
-
 pub fn set_text_color(numbers: &mut [u32], dc: u32, color: Colorref) -> Answer
     requires { ⌜ Lent (now numbers) (view (now numbers) .«panel_len») (view (now numbers) .«store_len») ⌝ }
     ensures { λ r. ⌜ OnNumbers (λ n. Followed (setTextColor (view n) dc color) n) numbers (partsOf r) ⌝ }
@@ -23,7 +20,7 @@ pub fn set_text_color(numbers: &mut [u32], dc: u32, color: Colorref) -> Answer
             lookup::update_dc(numbers, dc, p, after);
             Answer::OldColor(old)
         }
-        DcFound::Absent => Answer::Refused(NO_DC),
+        DcFound::Absent => Answer::Refused(refusals::NO_DC),
     }
 }
 
@@ -39,7 +36,7 @@ pub fn set_text_align(numbers: &mut [u32], dc: u32, align: u32) -> Answer
             lookup::update_dc(numbers, dc, p, after);
             Answer::OldAlign(old)
         }
-        DcFound::Absent => Answer::Refused(NO_DC),
+        DcFound::Absent => Answer::Refused(refusals::NO_DC),
     }
 }
 
@@ -55,7 +52,7 @@ pub fn set_bk_color(numbers: &mut [u32], dc: u32, color: Colorref) -> Answer
             lookup::update_dc(numbers, dc, p, after);
             Answer::OldColor(old)
         }
-        DcFound::Absent => Answer::Refused(NO_DC),
+        DcFound::Absent => Answer::Refused(refusals::NO_DC),
     }
 }
 
@@ -71,6 +68,6 @@ pub fn set_bk_mode(numbers: &mut [u32], dc: u32, transparent: bool) -> Answer
             lookup::update_dc(numbers, dc, p, after);
             Answer::OldMode(old)
         }
-        DcFound::Absent => Answer::Refused(NO_DC),
+        DcFound::Absent => Answer::Refused(refusals::NO_DC),
     }
 }

@@ -3,7 +3,6 @@ pub use p6::ppm_len;
 ghost use Rattle.snapshot.specs.Snapshot.{rgba8888, ppm, Snapped};
 use numbers::HEIGHT;
 use numbers::WIDTH;
-use ready::OTHER_LENGTH;
 
 // Writes R, G, B, 255 of each of the panel's pixels. Returns the refusal's number, 0 if the snapshot was made.
 pub fn snapshot_rgba8888_into(numbers: &[u32], panel: &[u8], out: &mut [u8]) -> u32
@@ -16,7 +15,7 @@ pub fn snapshot_rgba8888_into(numbers: &[u32], panel: &[u8], out: &mut [u8]) -> 
     let width = numbers[WIDTH];
     let height = numbers[HEIGHT];
     if out.len() != samples::rgba_len(width, height) {
-        return OTHER_LENGTH;
+        return refusals::LENGTH;
     }
     samples::write_rgba(panel, width, height, out);
     0
@@ -33,7 +32,7 @@ pub fn snapshot_ppm(numbers: &[u32], panel: &[u8], out: &mut [u8]) -> u32
     let width = numbers[WIDTH];
     let height = numbers[HEIGHT];
     if out.len() != ppm_len(width, height) {
-        return OTHER_LENGTH;
+        return refusals::LENGTH;
     }
     samples::write_ppm(panel, width, height, out);
     0

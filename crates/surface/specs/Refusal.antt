@@ -15,7 +15,7 @@ side n = leb 1 n && leb n 4096
 abbrev pub sourceSide : ℕ → Bool
 sourceSide n = leb n 4096
 
--- 6 a side outside its limit, then 8 bytes not 2·w·h long; 0 if accepted
+-- 6 if a side is outside its limits, then 8 if the bytes are not 2·w·h long; 0 if accepted
 unfoldable pub refusalFor : (sides : Bool) → (width height len : ℕ) → ℕ
 refusalFor sides width height len = cond sides (cond (eqb len (2 * (width * height))) 0 8) 6
 
@@ -30,15 +30,15 @@ refusalFrom width height src-w src-h len = refusalFor ((side width && side heigh
 abbrev pub unlessRefused : ℕ → (new old : List ℕ) → List ℕ
 unlessRefused number new old = cond (eqb number 0) new old
 
--- What an operation has done: its answer, and the bytes after it, which are those drawn unless it is refused with a number.
+-- What an operation ensures: its answer r, and the bytes afterwards, which are those drawn unless it is refused.
 pub record Done {A : Type 0} (expected : A) (number : ℕ) (drawn before : List ℕ) (r : A) (after : List ℕ) : Type 0 where
   pub answer : r ≡ expected
   pub bytes : after ≡ unlessRefused number drawn before
 
--- a drawing: a refusal answers its number and no mark
+-- for a drawing: a refusal answers its number and no mark
 abbrev pub Drew : (number : ℕ) → (mark : Bool) → (drawn before : List ℕ) → Drawn → (after : List ℕ) → Type 0
 Drew number mark = Done (record { refusal = number; marked = eqb number 0 && mark }) number
 
--- a text: a refusal answers its number and no advance
+-- for a text: a refusal answers its number and no advance
 abbrev pub Advanced : (number advance : ℕ) → (drawn before : List ℕ) → Advance → (after : List ℕ) → Type 0
 Advanced number advance = Done (record { refusal = number; advance = cond (eqb number 0) advance 0 }) number

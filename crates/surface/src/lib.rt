@@ -1,35 +1,26 @@
-// What the operations on lent pixel bytes share: their answers, their refusals, and their definitions' common words. A surface
-// is its pixel bytes with a width and a height.
+// What the operations on lent pixel bytes share: their answers, their refusals and common definitions. A surface is its pixel bytes
+// with a width and a height.
 ghost use mathlib.Core.Path.{_≡_};
 ghost use Rattle.surface.specs.Refusal.{side, refusal, refusalFrom};
 
 // The largest side of a surface.
 pub const MAX_SIDE: u32 = 4096;
 
-// The refusal of a side outside its limit.
-pub const BAD_SIDE: u32 = 6;
-
-// The refusal of bytes that are not 2 * width * height long.
-pub const BAD_LENGTH: u32 = 8;
-
-// The refusal of a text that is too long.
-pub const TOO_MANY_UNITS: u32 = 10;
-
-// What a drawing on lent bytes answers: the refusal's number, 0 if there is none, and whether it made a dirty mark.
+// The answer of a drawing on lent bytes: the refusal's number, 0 if accepted, and whether it made a dirty mark.
 #[repr(C)]
 pub struct Drawn {
     pub refusal: u32,
     pub marked: bool,
 }
 
-// What a text on lent bytes answers: the refusal's number, 0 if there is none, and its advance in pixels.
+// The answer of a text on lent bytes: the refusal's number, 0 if accepted, and its advance in pixels.
 #[repr(C)]
 pub struct Advance {
     pub refusal: u32,
     pub advance: u32,
 }
 
-// A side that a surface may have.
+// Returns whether a side is within its limits.
 pub fn is_side(n: u32) -> bool
     ensures { λ r. ⌜ r ≡ side n ⌝ }
 {
@@ -39,7 +30,7 @@ pub fn is_side(n: u32) -> bool
     n <= MAX_SIDE
 }
 
-// The number with which an operation on len bytes is refused, 0 if it is not.
+// Returns the number with which an operation on len bytes is refused, 0 if it is accepted.
 pub fn refusal(width: u32, height: u32, len: usize) -> u32
     ensures { λ r. ⌜ r ≡ refusal width height len ⌝ }
 {
@@ -48,21 +39,21 @@ pub fn refusal(width: u32, height: u32, len: usize) -> u32
             if len == 2 * ((width as usize) * (height as usize)) {
                 return 0;
             }
-            return BAD_LENGTH;
+            return refusals::LENGTH;
         }
     }
-    BAD_SIDE
+    refusals::SIDE
 }
 
-// The same for an operation that has a source of its own sides.
+// The same for an operation with a source.
 pub fn refusal_from(width: u32, height: u32, src_w: u32, src_h: u32, len: usize) -> u32
     ensures { λ r. ⌜ r ≡ refusalFrom width height «src_w» «src_h» len ⌝ }
 {
     if MAX_SIDE < src_w {
-        return BAD_SIDE;
+        return refusals::SIDE;
     }
     if MAX_SIDE < src_h {
-        return BAD_SIDE;
+        return refusals::SIDE;
     }
     refusal(width, height, len)
 }

@@ -1,5 +1,5 @@
 // The operations on lent bytes under C names, for programs in other languages. A slice is a pointer and a length there, a
-// colour a struct of its 16 bits. Each makes a surface of its parts and passes it on.
+// colour a struct of its 16 bits. Each makes the surface struct from its parts and passes it on.
 ghost use Rattle.fill.specs.Fill.{FillRect, FillRectRop};
 ghost use Rattle.outline.specs.Outline.{StrokeRect};
 ghost use Rattle.blit.specs.Blit.{BlitBytes};
@@ -19,12 +19,12 @@ pub extern "C" fn ravinefork_fill_rect(
 ) -> surface::Drawn
     ensures { λ r. ⌜ FillRect x y w h (color .0) width height (now (pixels .entry)) r (now (pixels .exit)) ⌝ }
 {
-    let s = lent::Surface {
+    let s = surface_operations::Surface {
         pixels,
         width,
         height,
     };
-    lent::fill_rect(s, x, y, w, h, color)
+    surface_operations::fill_rect(s, x, y, w, h, color)
 }
 
 // fill::fill_rect_rop
@@ -42,12 +42,12 @@ pub extern "C" fn ravinefork_fill_rect_rop(
 ) -> surface::Drawn
     ensures { λ r. ⌜ FillRectRop x y w h (pat .0) rop width height (now (pixels .entry)) r (now (pixels .exit)) ⌝ }
 {
-    let s = lent::Surface {
+    let s = surface_operations::Surface {
         pixels,
         width,
         height,
     };
-    lent::fill_rect_rop(s, x, y, w, h, pat, rop)
+    surface_operations::fill_rect_rop(s, x, y, w, h, pat, rop)
 }
 
 // outline::stroke_rect
@@ -64,12 +64,12 @@ pub extern "C" fn ravinefork_stroke_rect(
 ) -> surface::Drawn
     ensures { λ r. ⌜ StrokeRect x y w h (color .0) width height (now (pixels .entry)) r (now (pixels .exit)) ⌝ }
 {
-    let s = lent::Surface {
+    let s = surface_operations::Surface {
         pixels,
         width,
         height,
     };
-    lent::stroke_rect(s, x, y, w, h, color)
+    surface_operations::stroke_rect(s, x, y, w, h, color)
 }
 
 // blit::blit_from_bytes_rop
@@ -92,12 +92,12 @@ pub extern "C" fn ravinefork_blit_from_bytes_rop(
 ) -> surface::Drawn
     ensures { λ r. ⌜ BlitBytes dx dy sx sy w h (now (src .entry)) «src_w» «src_h» rop (pat .0) width height (now (pixels .entry)) r (now (pixels .exit)) ⌝ }
 {
-    let s = lent::Surface {
+    let s = surface_operations::Surface {
         pixels,
         width,
         height,
     };
-    lent::blit_from_bytes_rop(s, dx, dy, sx, sy, w, h, src, src_w, src_h, rop, pat)
+    surface_operations::blit_from_bytes_rop(s, dx, dy, sx, sy, w, h, src, src_w, src_h, rop, pat)
 }
 
 // text::draw_char
@@ -113,12 +113,12 @@ pub extern "C" fn ravinefork_draw_char(
 ) -> surface::Drawn
     ensures { λ r. ⌜ DrawChar x y ch (color .0) width height (now (pixels .entry)) r (now (pixels .exit)) ⌝ }
 {
-    let s = lent::Surface {
+    let s = surface_operations::Surface {
         pixels,
         width,
         height,
     };
-    lent::draw_char(s, x, y, ch, color)
+    surface_operations::draw_char(s, x, y, ch, color)
 }
 
 // text::draw_str_u16
@@ -134,10 +134,10 @@ pub extern "C" fn ravinefork_draw_str_u16(
 ) -> surface::Advance
     ensures { λ r. ⌜ DrawStr x y (now (units .entry)) (color .0) width height (now (pixels .entry)) r (now (pixels .exit)) ⌝ }
 {
-    let s = lent::Surface {
+    let s = surface_operations::Surface {
         pixels,
         width,
         height,
     };
-    lent::draw_str_u16(s, x, y, units, color)
+    surface_operations::draw_str_u16(s, x, y, units, color)
 }

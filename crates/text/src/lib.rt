@@ -17,7 +17,7 @@ pub const MAX_UNITS: usize = 65535;
 // A unit's width in pixels.
 pub const GLYPH_W: u32 = 6;
 
-// The character ch with its upper left corner at x, y: nothing outside 0x20 to 0x7E. It makes no mark.
+// Draws the character ch with its upper left corner at x, y; nothing outside 0x20 to 0x7E. It makes no dirty mark.
 pub fn draw_char(
     pixels: &mut [u8],
     width: u32,
@@ -46,8 +46,8 @@ pub fn draw_char(
     }
 }
 
-// The text before unit 0 or the end, with its upper left corner at x, y. Units outside 0x20 to 0x7E are drawn as '?'. It makes
-// no mark; the answer is its advance.
+// Draws the text before unit 0 or the end, with its upper left corner at x, y. Units outside 0x20 to 0x7E are drawn as '?'. It makes
+// no dirty mark and returns its advance.
 pub fn draw_str_u16(
     pixels: &mut [u8],
     width: u32,
@@ -71,7 +71,7 @@ pub fn draw_str_u16(
             };
         }
         return Advance {
-            refusal: surface::TOO_MANY_UNITS,
+            refusal: refusals::TEXT_TOO_LONG,
             advance: 0,
         };
     }
@@ -81,7 +81,7 @@ pub fn draw_str_u16(
     }
 }
 
-// The units before unit 0 or the end.
+// Returns the number of units before unit 0 or the end.
 pub fn unit_count(s: &[u16]) -> usize
     ensures { λ r. ⌜ (r ≡ unitCount (now (s .entry))) × (r ≤ length (now (s .entry))) ⌝ }
 {
@@ -95,7 +95,7 @@ pub fn unit_count(s: &[u16]) -> usize
     i
 }
 
-// The first n units of s, on a surface that is in order.
+// Draws the first n units of s on a surface whose sides and length were checked.
 pub fn draw_units(
     pixels: &mut [u8],
     width: u32,
@@ -125,7 +125,7 @@ pub fn draw_units(
     }
 }
 
-// The units, of n, that reach a surface: each before them ends left of it, and each after them starts right of it.
+// Returns which of n units reach a surface: each before them ends left of it, and each after them starts right of it.
 fn units_reached(x: i32, width: u32, n: u32) -> clip::Span
     requires { ⌜ n ≤ 65535 ⌝ }
     ensures { λ r. ⌜ Reached x width n r ⌝ }
@@ -138,7 +138,7 @@ fn units_reached(x: i32, width: u32, n: u32) -> clip::Span
     }
 }
 
-// A unit that has a glyph: 0x20 to 0x7E.
+// Returns whether a unit has a glyph: 0x20 to 0x7E.
 fn is_printable(u: u32) -> bool
     ensures { λ r. ⌜ r ≡ printable u ⌝ }
 {
@@ -148,7 +148,7 @@ fn is_printable(u: u32) -> bool
     u <= 0x7E
 }
 
-// The glyph of a unit: outside 0x20 to 0x7E it is the one of '?'.
+// Returns the glyph of a unit; outside 0x20 to 0x7E it is that of '?'.
 fn glyph_for(u: u16) -> usize
     ensures { λ r. ⌜ (r ≡ glyphFor u) × (r < 95) ⌝ }
 {

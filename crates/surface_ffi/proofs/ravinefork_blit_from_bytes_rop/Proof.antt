@@ -1,13 +1,13 @@
--- `surface_ffi::ravinefork_blit_from_bytes_rop` meets its contract: the surface is made of its parts, and passed to `lent::blit_from_bytes_rop`. Assumes nothing.
+-- `surface_ffi::ravinefork_blit_from_bytes_rop` meets its contract: the surface is made of its parts, and passed to `surface_operations::blit_from_bytes_rop`. Assumes nothing.
 use contract.Running.{givenOf, tables, tablesOf}
 use denote.Triple.Spec.{tripleOf}
 use denote.Triple.Table.{entered, cited}
-use Rattle.lent.proofs.Drawings.{blits}
-use Rattle.lent_surface.proofs.Operation.{OnSurface, it-says}
-use Rattle.lent_surface.proofs.Walks.{together-meets}
-use Rattle.lent.proofs.blit_from_bytes_rop.Symbol as callee-def
-use Rattle.lent.proofs.blit_from_bytes_rop.Symbol.{name as #lent·blit-from-bytes-rop}
-use Rattle.lent.proofs.blit_from_bytes_rop.Met as callee-thm
+use Rattle.surface_operations.proofs.Drawings.{blits}
+use Rattle.surface_struct.proofs.Operation.{OnSurface, it-says}
+use Rattle.surface_struct.proofs.Walks.{together-meets}
+use Rattle.surface_operations.proofs.blit_from_bytes_rop.Symbol as callee-def
+use Rattle.surface_operations.proofs.blit_from_bytes_rop.Symbol.{name as #lent·blit-from-bytes-rop}
+use Rattle.surface_operations.proofs.blit_from_bytes_rop.Met as callee-thm
 use Rattle.surface_ffi.proofs.ravinefork_blit_from_bytes_rop.Key.{name as #surface-ffi·ravinefork-blit-from-bytes-rop}
 use Rattle.surface_ffi.proofs.ravinefork_blit_from_bytes_rop as f
 use Rattle.surface_ffi.proofs.ravinefork_blit_from_bytes_rop.Statement as stated

@@ -1,13 +1,13 @@
--- `surface_ffi::ravinefork_draw_char` meets its contract: the surface is made of its parts, and passed to `lent::draw_char`. Assumes nothing.
+-- `surface_ffi::ravinefork_draw_char` meets its contract: the surface is made of its parts, and passed to `surface_operations::draw_char`. Assumes nothing.
 use contract.Running.{givenOf, tables, tablesOf}
 use denote.Triple.Spec.{tripleOf}
 use denote.Triple.Table.{entered, cited}
-use Rattle.lent.proofs.Drawings.{draws-char}
-use Rattle.lent_surface.proofs.Operation.{OnSurface, it-says}
-use Rattle.lent_surface.proofs.Walks.{together-meets}
-use Rattle.lent.proofs.draw_char.Symbol as callee-def
-use Rattle.lent.proofs.draw_char.Symbol.{name as #lent·draw-char}
-use Rattle.lent.proofs.draw_char.Met as callee-thm
+use Rattle.surface_operations.proofs.Drawings.{draws-char}
+use Rattle.surface_struct.proofs.Operation.{OnSurface, it-says}
+use Rattle.surface_struct.proofs.Walks.{together-meets}
+use Rattle.surface_operations.proofs.draw_char.Symbol as callee-def
+use Rattle.surface_operations.proofs.draw_char.Symbol.{name as #lent·draw-char}
+use Rattle.surface_operations.proofs.draw_char.Met as callee-thm
 use Rattle.surface_ffi.proofs.ravinefork_draw_char.Key.{name as #surface-ffi·ravinefork-draw-char}
 use Rattle.surface_ffi.proofs.ravinefork_draw_char as f
 use Rattle.surface_ffi.proofs.ravinefork_draw_char.Statement as stated

@@ -1,13 +1,13 @@
--- `surface_ffi::ravinefork_draw_str_u16` meets its contract: the surface is made of its parts, and passed to `lent::draw_str_u16`. Assumes nothing.
+-- `surface_ffi::ravinefork_draw_str_u16` meets its contract: the surface is made of its parts, and passed to `surface_operations::draw_str_u16`. Assumes nothing.
 use contract.Running.{givenOf, tables, tablesOf}
 use denote.Triple.Spec.{tripleOf}
 use denote.Triple.Table.{entered, cited}
-use Rattle.lent.proofs.Drawings.{draws-text}
-use Rattle.lent_surface.proofs.Operation.{OnSurface, it-says}
-use Rattle.lent_surface.proofs.Walks.{together-meets}
-use Rattle.lent.proofs.draw_str_u16.Symbol as callee-def
-use Rattle.lent.proofs.draw_str_u16.Symbol.{name as #lent·draw-str-u16}
-use Rattle.lent.proofs.draw_str_u16.Met as callee-thm
+use Rattle.surface_operations.proofs.Drawings.{draws-text}
+use Rattle.surface_struct.proofs.Operation.{OnSurface, it-says}
+use Rattle.surface_struct.proofs.Walks.{together-meets}
+use Rattle.surface_operations.proofs.draw_str_u16.Symbol as callee-def
+use Rattle.surface_operations.proofs.draw_str_u16.Symbol.{name as #lent·draw-str-u16}
+use Rattle.surface_operations.proofs.draw_str_u16.Met as callee-thm
 use Rattle.surface_ffi.proofs.ravinefork_draw_str_u16.Key.{name as #surface-ffi·ravinefork-draw-str-u16}
 use Rattle.surface_ffi.proofs.ravinefork_draw_str_u16 as f
 use Rattle.surface_ffi.proofs.ravinefork_draw_str_u16.Statement as stated

@@ -1,13 +1,13 @@
--- `surface_ffi::ravinefork_fill_rect` meets its contract: the surface is made of its parts, and passed to `lent::fill_rect`. Assumes nothing.
+-- `surface_ffi::ravinefork_fill_rect` meets its contract: the surface is made of its parts, and passed to `surface_operations::fill_rect`. Assumes nothing.
 use contract.Running.{givenOf, tables, tablesOf}
 use denote.Triple.Spec.{tripleOf}
 use denote.Triple.Table.{entered, cited}
-use Rattle.lent.proofs.Drawings.{fills}
-use Rattle.lent_surface.proofs.Operation.{OnSurface, it-says}
-use Rattle.lent_surface.proofs.Walks.{together-meets}
-use Rattle.lent.proofs.fill_rect.Symbol as callee-def
-use Rattle.lent.proofs.fill_rect.Symbol.{name as #lent·fill-rect}
-use Rattle.lent.proofs.fill_rect.Met as callee-thm
+use Rattle.surface_operations.proofs.Drawings.{fills}
+use Rattle.surface_struct.proofs.Operation.{OnSurface, it-says}
+use Rattle.surface_struct.proofs.Walks.{together-meets}
+use Rattle.surface_operations.proofs.fill_rect.Symbol as callee-def
+use Rattle.surface_operations.proofs.fill_rect.Symbol.{name as #lent·fill-rect}
+use Rattle.surface_operations.proofs.fill_rect.Met as callee-thm
 use Rattle.surface_ffi.proofs.ravinefork_fill_rect.Key.{name as #surface-ffi·ravinefork-fill-rect}
 use Rattle.surface_ffi.proofs.ravinefork_fill_rect as f
 use Rattle.surface_ffi.proofs.ravinefork_fill_rect.Statement as stated

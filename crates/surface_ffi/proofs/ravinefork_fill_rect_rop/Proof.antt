@@ -1,13 +1,13 @@
--- `surface_ffi::ravinefork_fill_rect_rop` meets its contract: the surface is made of its parts, and passed to `lent::fill_rect_rop`. Assumes nothing.
+-- `surface_ffi::ravinefork_fill_rect_rop` meets its contract: the surface is made of its parts, and passed to `surface_operations::fill_rect_rop`. Assumes nothing.
 use contract.Running.{givenOf, tables, tablesOf}
 use denote.Triple.Spec.{tripleOf}
 use denote.Triple.Table.{entered, cited}
-use Rattle.lent.proofs.Drawings.{fills-rop}
-use Rattle.lent_surface.proofs.Operation.{OnSurface, it-says}
-use Rattle.lent_surface.proofs.Walks.{together-meets}
-use Rattle.lent.proofs.fill_rect_rop.Symbol as callee-def
-use Rattle.lent.proofs.fill_rect_rop.Symbol.{name as #lent·fill-rect-rop}
-use Rattle.lent.proofs.fill_rect_rop.Met as callee-thm
+use Rattle.surface_operations.proofs.Drawings.{fills-rop}
+use Rattle.surface_struct.proofs.Operation.{OnSurface, it-says}
+use Rattle.surface_struct.proofs.Walks.{together-meets}
+use Rattle.surface_operations.proofs.fill_rect_rop.Symbol as callee-def
+use Rattle.surface_operations.proofs.fill_rect_rop.Symbol.{name as #lent·fill-rect-rop}
+use Rattle.surface_operations.proofs.fill_rect_rop.Met as callee-thm
 use Rattle.surface_ffi.proofs.ravinefork_fill_rect_rop.Key.{name as #surface-ffi·ravinefork-fill-rect-rop}
 use Rattle.surface_ffi.proofs.ravinefork_fill_rect_rop as f
 use Rattle.surface_ffi.proofs.ravinefork_fill_rect_rop.Statement as stated

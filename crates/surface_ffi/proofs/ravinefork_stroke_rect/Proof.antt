@@ -1,13 +1,13 @@
--- `surface_ffi::ravinefork_stroke_rect` meets its contract: the surface is made of its parts, and passed to `lent::stroke_rect`. Assumes nothing.
+-- `surface_ffi::ravinefork_stroke_rect` meets its contract: the surface is made of its parts, and passed to `surface_operations::stroke_rect`. Assumes nothing.
 use contract.Running.{givenOf, tables, tablesOf}
 use denote.Triple.Spec.{tripleOf}
 use denote.Triple.Table.{entered, cited}
-use Rattle.lent.proofs.Drawings.{strokes}
-use Rattle.lent_surface.proofs.Operation.{OnSurface, it-says}
-use Rattle.lent_surface.proofs.Walks.{together-meets}
-use Rattle.lent.proofs.stroke_rect.Symbol as callee-def
-use Rattle.lent.proofs.stroke_rect.Symbol.{name as #lent·stroke-rect}
-use Rattle.lent.proofs.stroke_rect.Met as callee-thm
+use Rattle.surface_operations.proofs.Drawings.{strokes}
+use Rattle.surface_struct.proofs.Operation.{OnSurface, it-says}
+use Rattle.surface_struct.proofs.Walks.{together-meets}
+use Rattle.surface_operations.proofs.stroke_rect.Symbol as callee-def
+use Rattle.surface_operations.proofs.stroke_rect.Symbol.{name as #lent·stroke-rect}
+use Rattle.surface_operations.proofs.stroke_rect.Met as callee-thm
 use Rattle.surface_ffi.proofs.ravinefork_stroke_rect.Key.{name as #surface-ffi·ravinefork-stroke-rect}
 use Rattle.surface_ffi.proofs.ravinefork_stroke_rect as f
 use Rattle.surface_ffi.proofs.ravinefork_stroke_rect.Statement as stated

@@ -1,17 +1,17 @@
--- `lent::stroke_rect` meets its contract: the surface is taken apart, and `outline::stroke_rect` is called. Assumes nothing.
+-- `surface_operations::stroke_rect` meets its contract: the surface is taken apart, and `outline::stroke_rect` is called. Assumes nothing.
 use contract.Running.{givenOf, tables, tablesOf}
 use denote.Triple.Spec.{tripleOf}
 use denote.Triple.Table.{entered, cited}
-use Rattle.lent.proofs.Drawings.{strokes}
-use Rattle.lent_surface.proofs.Operation.{Parts, it-says}
-use Rattle.lent_surface.proofs.Walks.{apart-meets}
+use Rattle.surface_operations.proofs.Drawings.{strokes}
+use Rattle.surface_struct.proofs.Operation.{Parts, it-says}
+use Rattle.surface_struct.proofs.Walks.{apart-meets}
 use Rattle.outline.proofs.stroke_rect.Symbol as callee-def
 use Rattle.outline.proofs.stroke_rect.Symbol.{name as #outline·stroke-rect}
 use Rattle.outline.proofs.stroke_rect.Met as callee-thm
-use Rattle.lent.proofs.stroke_rect.Key.{name as #lent·stroke-rect}
-use Rattle.lent.proofs.stroke_rect as f
-use Rattle.lent.proofs.stroke_rect.Statement as stated
-use Rattle.lent.proofs.stroke_rect.Code as code
+use Rattle.surface_operations.proofs.stroke_rect.Key.{name as #lent·stroke-rect}
+use Rattle.surface_operations.proofs.stroke_rect as f
+use Rattle.surface_operations.proofs.stroke_rect.Statement as stated
+use Rattle.surface_operations.proofs.stroke_rect.Code as code
 
 pub stroke-rect-spec : {M : Type 1} → stated.statement M
 unfolding code.routine tablesOf

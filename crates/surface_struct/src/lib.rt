@@ -1,4 +1,4 @@
-// A surface as one value: its pixel bytes, lent, with its sides.
+// A surface as one struct: its lent pixel bytes with its sides.
 pub struct Surface<'a> {
     pub pixels: &'a mut [u8],
     pub width: u32,

@@ -1,17 +1,17 @@
--- `lent::blit_from_bytes_rop` meets its contract: the surface is taken apart, and `blit::blit_from_bytes_rop` is called. Assumes nothing.
+-- `surface_operations::blit_from_bytes_rop` meets its contract: the surface is taken apart, and `blit::blit_from_bytes_rop` is called. Assumes nothing.
 use contract.Running.{givenOf, tables, tablesOf}
 use denote.Triple.Spec.{tripleOf}
 use denote.Triple.Table.{entered, cited}
-use Rattle.lent.proofs.Drawings.{blits}
-use Rattle.lent_surface.proofs.Operation.{Parts, it-says}
-use Rattle.lent_surface.proofs.Walks.{apart-meets}
+use Rattle.surface_operations.proofs.Drawings.{blits}
+use Rattle.surface_struct.proofs.Operation.{Parts, it-says}
+use Rattle.surface_struct.proofs.Walks.{apart-meets}
 use Rattle.blit.proofs.blit_from_bytes_rop.Symbol as callee-def
 use Rattle.blit.proofs.blit_from_bytes_rop.Symbol.{name as #blit·blit-from-bytes-rop}
 use Rattle.blit.proofs.blit_from_bytes_rop.Met as callee-thm
-use Rattle.lent.proofs.blit_from_bytes_rop.Key.{name as #lent·blit-from-bytes-rop}
-use Rattle.lent.proofs.blit_from_bytes_rop as f
-use Rattle.lent.proofs.blit_from_bytes_rop.Statement as stated
-use Rattle.lent.proofs.blit_from_bytes_rop.Code as code
+use Rattle.surface_operations.proofs.blit_from_bytes_rop.Key.{name as #lent·blit-from-bytes-rop}
+use Rattle.surface_operations.proofs.blit_from_bytes_rop as f
+use Rattle.surface_operations.proofs.blit_from_bytes_rop.Statement as stated
+use Rattle.surface_operations.proofs.blit_from_bytes_rop.Code as code
 
 pub blit-from-bytes-rop-spec : {M : Type 1} → stated.statement M
 unfolding code.routine tablesOf

@@ -37,12 +37,12 @@ use denote.Triple.Entry.{Args, onEntry}
 use denote.Triple.Spec.{tripleOf}
 use denote.Triple.Statement.{Contract}
 use denote.Triple.Walked.{Stays, stay-dropped, gave-slice, fitsOf, hasOf, AllGo, goes-dropped, goes-gave-slice, walkOf, ends-at}
-use Rattle.lent_surface.specs.declared.Surface.{Surface}
-use Rattle.lent_surface.specs.On.{On}
-use Rattle.lent_surface.proofs.Surface as T
-use Rattle.lent_surface.proofs.Surface.Laws as T′
-use Rattle.lent_surface.proofs.Param.{Param, slots, rests}
-use Rattle.lent_surface.proofs.Held.{SurfaceS, surface-gave, surface-goes}
+use Rattle.surface_struct.specs.declared.Surface.{Surface}
+use Rattle.surface_struct.specs.On.{On}
+use Rattle.surface_struct.proofs.Surface as T
+use Rattle.surface_struct.proofs.Surface.Laws as T′
+use Rattle.surface_struct.proofs.Param.{Param, slots, rests}
+use Rattle.surface_struct.proofs.Held.{SurfaceS, surface-gave, surface-goes}
 
 -- nothing is had at exit of the further parameters
 abbrev pub dropped : {k : ℕ} (ss : List (Slot (suc k))) → Stays ss (all yes ss)
@@ -215,7 +215,7 @@ module _ {M : Type 1} (𝓤 : URA M) (H : Heap 𝓤) (A : Atoms 𝓤) (W : Given
       move ! (3 ∷ []) $ split ! $ keep ! (0 ∷ 2 ∷ 1 ∷ []) $ done !))))
 
   -- ---- how a walk ends
-  -- what holds anyway is said beside P
+  -- what holds in any case is joined to P
   and-so : (P : SProp 𝓤) {Q : SProp 𝓤} → ent 𝓤 (emp 𝓤) Q → ent 𝓤 P (sep 𝓤 P Q)
   and-so P {Q} k = qed W (raw P ∷ []) ∵ use0 W (raw Q) k $ move ! (1 ∷ 0 ∷ []) $ done !
 

@@ -1,22 +1,22 @@
-// The operations on a surface that is one value. Each takes it apart and calls the function on slice and numbers.
-pub use lent_surface::Surface;
+// The operations on a surface struct. Each takes it apart and calls the function on slice and numbers.
+pub use surface_struct::Surface;
 ghost use Rattle.fill.specs.Fill.{FillRect, FillRectRop};
 ghost use Rattle.outline.specs.Outline.{StrokeRect};
 ghost use Rattle.blit.specs.Blit.{BlitBytes};
 ghost use Rattle.text.specs.Ink.{DrawChar, DrawStr};
-ghost use Rattle.lent_surface.specs.On.{On};
+ghost use Rattle.surface_struct.specs.On.{On};
 use color::Rgb565;
 use surface::Advance;
 use surface::Drawn;
 
-// The w by h pixels at x, y in one colour.
+// Fills the w by h pixels at x, y with one colour.
 pub fn fill_rect<'a>(s: Surface<'a>, x: i32, y: i32, w: i32, h: i32, color: Rgb565) -> Drawn
     ensures { λ r. ⌜ On (s .entry) (FillRect x y w h (color .0)) r (now (s .exit .0)) ⌝ }
 {
     fill::fill_rect(&mut *s.pixels, s.width, s.height, x, y, w, h, color)
 }
 
-// Pattern and destination under a raster code, at the w by h pixels at x, y. The source operand is 0.
+// Combines pattern and destination under a raster code at the w by h pixels at x, y. The source operand is 0.
 pub fn fill_rect_rop<'a>(
     s: Surface<'a>,
     x: i32,
@@ -31,14 +31,14 @@ pub fn fill_rect_rop<'a>(
     fill::fill_rect_rop(&mut *s.pixels, s.width, s.height, x, y, w, h, pat, rop)
 }
 
-// The outline of the w by h pixels at x, y, one pixel thick.
+// Draws the outline of the w by h pixels at x, y, one pixel thick.
 pub fn stroke_rect<'a>(s: Surface<'a>, x: i32, y: i32, w: i32, h: i32, color: Rgb565) -> Drawn
     ensures { λ r. ⌜ On (s .entry) (StrokeRect x y w h (color .0)) r (now (s .exit .0)) ⌝ }
 {
     outline::stroke_rect(&mut *s.pixels, s.width, s.height, x, y, w, h, color)
 }
 
-// The w by h pixels at sx, sy of src, drawn at dx, dy under a raster code.
+// Blits the w by h pixels at sx, sy of src to dx, dy under a raster code.
 pub fn blit_from_bytes_rop<'a>(
     s: Surface<'a>,
     dx: i32,
@@ -73,14 +73,14 @@ pub fn blit_from_bytes_rop<'a>(
     )
 }
 
-// The character ch with its upper left corner at x, y.
+// Draws the character ch with its upper left corner at x, y.
 pub fn draw_char<'a>(s: Surface<'a>, x: i32, y: i32, ch: u32, color: Rgb565) -> Drawn
     ensures { λ r. ⌜ On (s .entry) (DrawChar x y ch (color .0)) r (now (s .exit .0)) ⌝ }
 {
     text::draw_char(&mut *s.pixels, s.width, s.height, x, y, ch, color)
 }
 
-// The text before unit 0 or the end, with its upper left corner at x, y.
+// Draws the text before unit 0 or the end, with its upper left corner at x, y.
 pub fn draw_str_u16<'a>(s: Surface<'a>, x: i32, y: i32, units: &[u16], color: Rgb565) -> Advance
     ensures { λ r. ⌜ On (s .entry) (DrawStr x y (now (units .entry)) (color .0)) r (now (s .exit .0)) ⌝ }
 {

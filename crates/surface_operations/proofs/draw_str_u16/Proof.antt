@@ -1,17 +1,17 @@
--- `lent::draw_str_u16` meets its contract: the surface is taken apart, and `text::draw_str_u16` is called. Assumes nothing.
+-- `surface_operations::draw_str_u16` meets its contract: the surface is taken apart, and `text::draw_str_u16` is called. Assumes nothing.
 use contract.Running.{givenOf, tables, tablesOf}
 use denote.Triple.Spec.{tripleOf}
 use denote.Triple.Table.{entered, cited}
-use Rattle.lent.proofs.Drawings.{draws-text}
-use Rattle.lent_surface.proofs.Operation.{Parts, it-says}
-use Rattle.lent_surface.proofs.Walks.{apart-meets}
+use Rattle.surface_operations.proofs.Drawings.{draws-text}
+use Rattle.surface_struct.proofs.Operation.{Parts, it-says}
+use Rattle.surface_struct.proofs.Walks.{apart-meets}
 use Rattle.text.proofs.draw_str_u16.Symbol as callee-def
 use Rattle.text.proofs.draw_str_u16.Symbol.{name as #text·draw-str-u16}
 use Rattle.text.proofs.draw_str_u16.Met as callee-thm
-use Rattle.lent.proofs.draw_str_u16.Key.{name as #lent·draw-str-u16}
-use Rattle.lent.proofs.draw_str_u16 as f
-use Rattle.lent.proofs.draw_str_u16.Statement as stated
-use Rattle.lent.proofs.draw_str_u16.Code as code
+use Rattle.surface_operations.proofs.draw_str_u16.Key.{name as #lent·draw-str-u16}
+use Rattle.surface_operations.proofs.draw_str_u16 as f
+use Rattle.surface_operations.proofs.draw_str_u16.Statement as stated
+use Rattle.surface_operations.proofs.draw_str_u16.Code as code
 
 pub draw-str-u16-spec : {M : Type 1} → stated.statement M
 unfolding code.routine tablesOf

@@ -1,4 +1,4 @@
--- A further parameter of an operation: its place in the signature, and what it is on the machine. Nothing is said of it at exit.
+-- A further parameter of an operation: its place in the signature, and what it is on the machine. No statement about it is made at exit.
 --     Param n          such a parameter, in a signature of n lifetimes.        int, number, colour, slice     an `i32`, a `u32`, an `Rgb565`, and a shared slice at the second lifetime
 --     slots, tys, spells, tells, rests, silents     of a list of them, what `Operation.antt` asks.        all-fit     their machine values are of their types
 -- `all-fit` takes `Given`. The rest assumes nothing.

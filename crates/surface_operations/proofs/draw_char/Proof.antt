@@ -1,17 +1,17 @@
--- `lent::draw_char` meets its contract: the surface is taken apart, and `text::draw_char` is called. Assumes nothing.
+-- `surface_operations::draw_char` meets its contract: the surface is taken apart, and `text::draw_char` is called. Assumes nothing.
 use contract.Running.{givenOf, tables, tablesOf}
 use denote.Triple.Spec.{tripleOf}
 use denote.Triple.Table.{entered, cited}
-use Rattle.lent.proofs.Drawings.{draws-char}
-use Rattle.lent_surface.proofs.Operation.{Parts, it-says}
-use Rattle.lent_surface.proofs.Walks.{apart-meets}
+use Rattle.surface_operations.proofs.Drawings.{draws-char}
+use Rattle.surface_struct.proofs.Operation.{Parts, it-says}
+use Rattle.surface_struct.proofs.Walks.{apart-meets}
 use Rattle.text.proofs.draw_char.Symbol as callee-def
 use Rattle.text.proofs.draw_char.Symbol.{name as #text·draw-char}
 use Rattle.text.proofs.draw_char.Met as callee-thm
-use Rattle.lent.proofs.draw_char.Key.{name as #lent·draw-char}
-use Rattle.lent.proofs.draw_char as f
-use Rattle.lent.proofs.draw_char.Statement as stated
-use Rattle.lent.proofs.draw_char.Code as code
+use Rattle.surface_operations.proofs.draw_char.Key.{name as #lent·draw-char}
+use Rattle.surface_operations.proofs.draw_char as f
+use Rattle.surface_operations.proofs.draw_char.Statement as stated
+use Rattle.surface_operations.proofs.draw_char.Code as code
 
 pub draw-char-spec : {M : Type 1} → stated.statement M
 unfolding code.routine tablesOf

@@ -1,17 +1,17 @@
--- `lent::fill_rect` meets its contract: the surface is taken apart, and `fill::fill_rect` is called. Assumes nothing.
+-- `surface_operations::fill_rect` meets its contract: the surface is taken apart, and `fill::fill_rect` is called. Assumes nothing.
 use contract.Running.{givenOf, tables, tablesOf}
 use denote.Triple.Spec.{tripleOf}
 use denote.Triple.Table.{entered, cited}
-use Rattle.lent.proofs.Drawings.{fills}
-use Rattle.lent_surface.proofs.Operation.{Parts, it-says}
-use Rattle.lent_surface.proofs.Walks.{apart-meets}
+use Rattle.surface_operations.proofs.Drawings.{fills}
+use Rattle.surface_struct.proofs.Operation.{Parts, it-says}
+use Rattle.surface_struct.proofs.Walks.{apart-meets}
 use Rattle.fill.proofs.fill_rect.Symbol as callee-def
 use Rattle.fill.proofs.fill_rect.Symbol.{name as #fill·fill-rect}
 use Rattle.fill.proofs.fill_rect.Met as callee-thm
-use Rattle.lent.proofs.fill_rect.Key.{name as #lent·fill-rect}
-use Rattle.lent.proofs.fill_rect as f
-use Rattle.lent.proofs.fill_rect.Statement as stated
-use Rattle.lent.proofs.fill_rect.Code as code
+use Rattle.surface_operations.proofs.fill_rect.Key.{name as #lent·fill-rect}
+use Rattle.surface_operations.proofs.fill_rect as f
+use Rattle.surface_operations.proofs.fill_rect.Statement as stated
+use Rattle.surface_operations.proofs.fill_rect.Code as code
 
 pub fill-rect-spec : {M : Type 1} → stated.statement M
 unfolding code.routine tablesOf

@@ -1,17 +1,17 @@
--- `lent::fill_rect_rop` meets its contract: the surface is taken apart, and `fill::fill_rect_rop` is called. Assumes nothing.
+-- `surface_operations::fill_rect_rop` meets its contract: the surface is taken apart, and `fill::fill_rect_rop` is called. Assumes nothing.
 use contract.Running.{givenOf, tables, tablesOf}
 use denote.Triple.Spec.{tripleOf}
 use denote.Triple.Table.{entered, cited}
-use Rattle.lent.proofs.Drawings.{fills-rop}
-use Rattle.lent_surface.proofs.Operation.{Parts, it-says}
-use Rattle.lent_surface.proofs.Walks.{apart-meets}
+use Rattle.surface_operations.proofs.Drawings.{fills-rop}
+use Rattle.surface_struct.proofs.Operation.{Parts, it-says}
+use Rattle.surface_struct.proofs.Walks.{apart-meets}
 use Rattle.fill.proofs.fill_rect_rop.Symbol as callee-def
 use Rattle.fill.proofs.fill_rect_rop.Symbol.{name as #fill·fill-rect-rop}
 use Rattle.fill.proofs.fill_rect_rop.Met as callee-thm
-use Rattle.lent.proofs.fill_rect_rop.Key.{name as #lent·fill-rect-rop}
-use Rattle.lent.proofs.fill_rect_rop as f
-use Rattle.lent.proofs.fill_rect_rop.Statement as stated
-use Rattle.lent.proofs.fill_rect_rop.Code as code
+use Rattle.surface_operations.proofs.fill_rect_rop.Key.{name as #lent·fill-rect-rop}
+use Rattle.surface_operations.proofs.fill_rect_rop as f
+use Rattle.surface_operations.proofs.fill_rect_rop.Statement as stated
+use Rattle.surface_operations.proofs.fill_rect_rop.Code as code
 
 pub fill-rect-rop-spec : {M : Type 1} → stated.statement M
 unfolding code.routine tablesOf

@@ -34,12 +34,12 @@ use denote.Triple.Entry.{onEntry}
 use denote.Triple.Spec.{Meets}
 use denote.Triple.Statement.{Triple}
 use denote.Triple.Walked.{walked, walk-meets}
-use Rattle.lent_surface.specs.declared.Surface.{Surface}
-use Rattle.lent_surface.proofs.Surface as T
-use Rattle.lent_surface.proofs.Surface.Laws as T′
-use Rattle.lent_surface.proofs.Param.{slots, tys, spells, tells, all-fit}
-use Rattle.lent_surface.proofs.Operation.{Operation, parts, surface, parts-stay, surface-stay, parts-go, surface-go, Parts, OnSurface, PartsSays, SurfaceSays, to-parts, to-surface, apart, together, Given-back, parts-give, surface-give, PartsPost, SurfacePost, parts-end, surface-end}
-use Rattle.lent_surface.proofs.Locals.{Blocks, env, locals, copies, past, at-next, at-start, spot-past, at-spot, reads-at, alloc-all, pass-all, forget-all, free-all}
+use Rattle.surface_struct.specs.declared.Surface.{Surface}
+use Rattle.surface_struct.proofs.Surface as T
+use Rattle.surface_struct.proofs.Surface.Laws as T′
+use Rattle.surface_struct.proofs.Param.{slots, tys, spells, tells, all-fit}
+use Rattle.surface_struct.proofs.Operation.{Operation, parts, surface, parts-stay, surface-stay, parts-go, surface-go, Parts, OnSurface, PartsSays, SurfaceSays, to-parts, to-surface, apart, together, Given-back, parts-give, surface-give, PartsPost, SurfacePost, parts-end, surface-end}
+use Rattle.surface_struct.proofs.Locals.{Blocks, env, locals, copies, past, at-next, at-start, spot-past, at-spot, reads-at, alloc-all, pass-all, forget-all, free-all}
 
 module _ (O : Operation) where
   -- the number of the local j after the further parameters

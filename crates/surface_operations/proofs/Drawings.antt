@@ -11,8 +11,8 @@ use Rattle.fill.specs.Fill.{FillRect, FillRectRop}
 use Rattle.outline.specs.Outline.{StrokeRect}
 use Rattle.blit.specs.Blit.{BlitBytes}
 use Rattle.text.specs.Ink.{DrawChar, DrawStr}
-use Rattle.lent_surface.proofs.Param.{int, number, colour, slice}
-use Rattle.lent_surface.proofs.Operation.{Answer, Operation}
+use Rattle.surface_struct.proofs.Param.{int, number, colour, slice}
+use Rattle.surface_struct.proofs.Operation.{Answer, Operation}
 
 abbrev drawn : Answer
 drawn = record { row = D.the-row; ty = D′.mir; typed = λ 𝓤 H A W r v is. LL.lawful D.the-type D′.the-laws 𝓤 H A W .typed r _ is .0 }

@@ -15,8 +15,8 @@ use denote.Exit.{yes}
 use denote.Signature.{Slot, plain, mutSlice, namedLft}
 use denote.Signature.Struct.{structAt}
 use denote.Triple.Walked.{Stay, Fields, stay-none, gave-slice, stay-struct-at, stay-declared, Goes, goes-none, goes-gave-slice, goes-struct-at, goes-declared}
-use Rattle.lent_surface.specs.declared.Surface.{Surface}
-use Rattle.lent_surface.proofs.Surface as T
+use Rattle.surface_struct.specs.declared.Surface.{Surface}
+use Rattle.surface_struct.proofs.Surface as T
 
 abbrev name : Sym
 name = T.struct (record { mir = named 0; lft = [] }) .name
