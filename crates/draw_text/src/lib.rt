@@ -31,16 +31,8 @@ pub fn text_out(
                 return Answer::Refused(refusals::TEXT_TOO_LONG);
             }
             let ink = color::colorref_to_rgb565(d.text_color);
-            draw::draw(
-                numbers,
-                panel,
-                store,
-                id,
-                site,
-                Drawing::Text { at, count },
-                units,
-                ink,
-            );
+            let drawing = Drawing::Text { at, count };
+            draw::draw(numbers, panel, store, id, site, drawing, units, ink);
             Answer::Advance(text::GLYPH_W * (count as u32))
         }
     }

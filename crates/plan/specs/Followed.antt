@@ -1,4 +1,4 @@
--- What it is that a plan was followed, on a record lent as numbers with its two memories.
+-- When a plan was followed, on a flat record lent with its two memories.
 use mathlib.Core.List.{List}
 use mathlib.Core.Path.{_≡_}
 use Prim.Native.Nat.{ℕ}
@@ -29,8 +29,9 @@ Performed c us l ms a l′ ms′ = Followed (planOn c us l (length (ms .panel)) 
 abbrev pub Slice : Type 0
 Slice = Both (RefT (List ℕ)) (RefT (List ℕ))
 
--- What holds of a record's numbers, the memories and an answer, of what a function was lent: numbers with both memories; with the
--- store, or the panel memory, and any other memory, which is kept; numbers alone, and any memories, which are kept.
+-- A relation of a record's numbers, the memories and an answer, stated on the slices that a function is lent: the numbers and both
+-- memories (`OnBoth`); the numbers and one memory (`OnStore`, `OnPanel`), for every content of the other; the numbers alone
+-- (`OnNumbers`), for every content of both.
 abbrev pub OnBoth : {A : Type 0} → (List ℕ → Memories → A → List ℕ → Memories → Type 0) → (l panel store : Slice) → A → Type 0
 OnBoth R l panel store a = R (now (l .entry)) (memories (now (panel .entry)) (now (store .entry))) a (now (l .exit)) (memories (now (panel .exit)) (now (store .exit)))
 

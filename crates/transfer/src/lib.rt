@@ -34,66 +34,20 @@ pub fn blit_at(
 {
     match at {
         Place::Nowhere => false,
-        Place::At(m, p, width, height) => match src {
+        Place::At(m, p, w, h) => match src {
             Place::Nowhere => false,
-            Place::At(n, q, src_w, src_h) => match m {
+            Place::At(n, q, sw, sh) => match m {
                 Memory::Panel => match n {
-                    Memory::Panel => blit_inside(
-                        panel,
-                        p,
-                        width,
-                        height,
-                        q,
-                        src_w,
-                        src_h,
-                        area,
-                        from,
-                        rop,
-                        pat,
-                    ),
-                    Memory::Store => blit_between(
-                        panel,
-                        p,
-                        width,
-                        height,
-                        store,
-                        q,
-                        src_w,
-                        src_h,
-                        area,
-                        from,
-                        rop,
-                        pat,
-                    ),
+                    Memory::Panel => blit_inside(panel, p, w, h, q, sw, sh, area, from, rop, pat),
+                    Memory::Store => {
+                        blit_between(panel, p, w, h, store, q, sw, sh, area, from, rop, pat)
+                    }
                 },
                 Memory::Store => match n {
-                    Memory::Panel => blit_between(
-                        store,
-                        p,
-                        width,
-                        height,
-                        panel,
-                        q,
-                        src_w,
-                        src_h,
-                        area,
-                        from,
-                        rop,
-                        pat,
-                    ),
-                    Memory::Store => blit_inside(
-                        store,
-                        p,
-                        width,
-                        height,
-                        q,
-                        src_w,
-                        src_h,
-                        area,
-                        from,
-                        rop,
-                        pat,
-                    ),
+                    Memory::Panel => {
+                        blit_between(store, p, w, h, panel, q, sw, sh, area, from, rop, pat)
+                    }
+                    Memory::Store => blit_inside(store, p, w, h, q, sw, sh, area, from, rop, pat),
                 },
             },
         },
