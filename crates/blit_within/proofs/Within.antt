@@ -128,12 +128,16 @@ module _ (box : BlitRect) (at W src-at SW table pat : ℕ) (m₀ : List ℕ) (ro
             ∙ ap (word m₀) (sym (ap (λ (x : ℕ). src-at + x) (taken-row box W (room .across) SW y (i - at) (on-row i t)) ∙ e))
 
   -- one row more from the top, and one from the bottom
-  pub next-down : (y : ℕ) {m m′ : List ℕ} → box .y0 ≤ box .«src_y0» → box .y0 ≤ y → y < box .y1 → m ≡ rowsWithin box at W src-at SW table pat (box .y0) y m₀ → m′ ≡ rowWithin box at W src-at SW table pat y m → m′ ≡ rowsWithin box at W src-at SW table pat (box .y0) (y + 1) m₀
+  pub next-down : (y : ℕ) {m m′ : List ℕ} → box .y0 ≤ box .«src_y0» → box .y0 ≤ y → y < box .y1
+      → m ≡ rowsWithin box at W src-at SW table pat (box .y0) y m₀ → m′ ≡ rowWithin box at W src-at SW table pat y m
+      → m′ ≡ rowsWithin box at W src-at SW table pat (box .y0) (y + 1) m₀
   next-down y order from to =
       next-within y (box .y0) y from to (omega arith) (box .y0) (y + 1)
       (λ i. below box W (room .across) y i from) (λ p q. omega arith) (λ p q. omega arith)
 
-  pub next-up : (y : ℕ) {m m′ : List ℕ} → box .«src_y0» ≤ box .y0 → box .y0 ≤ y → y < box .y1 → m ≡ rowsWithin box at W src-at SW table pat (y + 1) (box .y1) m₀ → m′ ≡ rowWithin box at W src-at SW table pat y m → m′ ≡ rowsWithin box at W src-at SW table pat y (box .y1) m₀
+  pub next-up : (y : ℕ) {m m′ : List ℕ} → box .«src_y0» ≤ box .y0 → box .y0 ≤ y → y < box .y1
+      → m ≡ rowsWithin box at W src-at SW table pat (y + 1) (box .y1) m₀ → m′ ≡ rowWithin box at W src-at SW table pat y m
+      → m′ ≡ rowsWithin box at W src-at SW table pat y (box .y1) m₀
   next-up y order from to =
       next-within y (y + 1) (box .y1) from to (omega arith) y (box .y1)
       (λ i. above box W (room .across) y i to) (λ p q. omega arith) (λ p q. omega arith)
@@ -181,7 +185,8 @@ module _ (b : Blit) (at src-at table pat : ℕ) (m : List ℕ) (P : Placed (leng
     apart = by (P .apart);
   })
     where
-      by : ((at ≡ src-at) × (b .width ≡ b .«src_w»)) ⊎ ((end ≤ src-at) ⊎ (src-at + b .«src_w» * b .«src_h» ≤ at)) → ((at ≡ src-at) × (b .width ≡ b .«src_w»)) ⊎ ((at + clipped b .y1 * b .width ≤ src-at) ⊎ (src-at + (clipped b .«src_y0» + (clipped b .y1 - clipped b .y0)) * b .«src_w» ≤ at))
+      by : ((at ≡ src-at) × (b .width ≡ b .«src_w»)) ⊎ ((end ≤ src-at) ⊎ (src-at + b .«src_w» * b .«src_h» ≤ at))
+          → ((at ≡ src-at) × (b .width ≡ b .«src_w»)) ⊎ ((at + clipped b .y1 * b .width ≤ src-at) ⊎ (src-at + (clipped b .«src_y0» + (clipped b .y1 - clipped b .y0)) * b .«src_w» ≤ at))
       by (inl e) = inl e
       by (inr (inl e)) = inr (inl (omega (arith, rows-end)))
       by (inr (inr e)) = inr (inr (omega (arith, source-end)))

@@ -1,6 +1,6 @@
 -- From the rectangle that the code holds to the box of the definitions, and from PATCOPY's table to one colour. Assumes nothing.
 use mathlib.Core.Path.{_≡_, refl, sym, _∙_, ap}
-use mathlib.Core.Bool.{Bool, true, false}
+use mathlib.Core.Bool.{true, false}
 use mathlib.Core.List.{List}
 use Prim.Native.Nat.{ℕ, _*_, _≤_, _<_}
 use native.Mathlib.Nat.{mul-le-mul-right}
@@ -20,7 +20,7 @@ use Rattle.surface.specs.declared.Drawn.{Drawn}
 use Rattle.surface.specs.Region.{wordsOf, box, nonempty}
 use Rattle.surface.proofs.Accepted.{InOrder}
 use Rattle.surface.proofs.Rows.{rect, column-lt, row-lt, no-rows, no-columns}
-use Rattle.fill.specs.Fill.{filled, filledRop, fillMarks, FillRect, FillRectRop}
+use Rattle.fill.specs.Fill.{filledRop, fillMarks, FillRect, FillRectRop}
 use Rattle.fill.specs.Inner.{roppedRect}
 
 -- a rectangle with a pixel, and the two without one

@@ -37,7 +37,8 @@ module _ (x y : ℤ) (g : List ℕ) (W x0 n y0 : ℕ) where
   pub rows-none : (i : ℕ) → rowsInk x y g W x0 n y0 y0 i ≡ false
   rows-none i = not-left (inkAt (getD g (past y (i / W)) 0) (past x (i % W))) (no-rows W x0 (x0 + n) y0 y0 i (omega arith))
 
-  pub rows-more : (r skip j : ℕ) → 0 < W → x0 + n ≤ W → y0 ≤ r → ((c : ℕ) → x0 ≤ c → c < x0 + n → past x c ≡ skip + (c - x0)) → past y r ≡ j → (i : ℕ) → rowsInk x y g W x0 n y0 (r + 1) i ≡ (rowInk (getD g j 0) skip (r * W + x0) n i || rowsInk x y g W x0 n y0 r i)
+  pub rows-more : (r skip j : ℕ) → 0 < W → x0 + n ≤ W → y0 ≤ r → ((c : ℕ) → x0 ≤ c → c < x0 + n → past x c ≡ skip + (c - x0)) → past y r ≡ j
+      → (i : ℕ) → rowsInk x y g W x0 n y0 (r + 1) i ≡ (rowInk (getD g j 0) skip (r * W + x0) n i || rowsInk x y g W x0 n y0 r i)
   rows-more r skip j some fits from columns row i =
       rw (row-below W x0 n r i some fits y0 from)
       (in-either run (wordsOf W (rect x0 (x0 + n) y0 r) i) (inkAt (getD g (past y (i / W)) 0) (past x (i % W))) (inkAt (getD g j 0) (skip + (i - (r * W + x0)))) ink)

@@ -24,7 +24,10 @@ returns-4 : tie.Need-returns-4
 returns-4 c = sym (object-pen _ _ (c .before .before .match .keys4))
 
 returns-5 : tie.Need-returns-5
-returns-5 c = let s = c .before .before in ap (λ (z : ℤ). Font (record { height = z })) (stored32 (c .signed .result) (record { sfits = c .signed .ok }) ∙ c .signed .ensures) ∙ sym (object-font _ _ (s .match .rest .0 .0 .0 .1) (s .match .rest .0 .0 .1) (s .match .rest .0 .1) (s .match .rest .1))
+returns-5 c =
+    let r = c .before .before .match .rest in
+    ap (λ (z : ℤ). Font (record { height = z })) (stored32 (c .signed .result) (record { sfits = c .signed .ok }) ∙ c .signed .ensures)
+    ∙ sym (object-font _ _ (r .0 .0 .0 .1) (r .0 .0 .1) (r .0 .1) (r .1))
 
 pub object-of-spec : {M : Type 1} → statement M
 object-of-spec =

@@ -1,6 +1,6 @@
 -- `outline::is_extent` meets its contract. Assumes nothing.
 use mathlib.Core.Bool.{true, false}
-use mathlib.Core.Path.{_≡_, sym, _∙_}
+use mathlib.Core.Path.{_≡_, sym}
 use lib.IntN.{pos}
 use lib.Signed.{leZ, ltZ}
 use Rattle.arithmetic.proofs.Integer.{not-positive, is-positive}
