@@ -6,7 +6,7 @@ use Rattle.surface_operations.proofs.Drawings.{blits}
 use Rattle.surface_struct.proofs.Operation.{OnSurface, it-says}
 use Rattle.surface_struct.proofs.Walks.{together-meets}
 use Rattle.surface_operations.proofs.blit_from_bytes_rop.Symbol as callee-def
-use Rattle.surface_operations.proofs.blit_from_bytes_rop.Symbol.{name as #lent·blit-from-bytes-rop}
+use Rattle.surface_operations.proofs.blit_from_bytes_rop.Symbol.{name as #surface-operations·blit-from-bytes-rop}
 use Rattle.surface_operations.proofs.blit_from_bytes_rop.Met as callee-thm
 use Rattle.surface_ffi.proofs.ravinefork_blit_from_bytes_rop.Key.{name as #surface-ffi·ravinefork-blit-from-bytes-rop}
 use Rattle.surface_ffi.proofs.ravinefork_blit_from_bytes_rop as f
@@ -18,5 +18,5 @@ unfolding code.routine tablesOf
 ravinefork-blit-from-bytes-rop-spec 𝓤 H 𝓜 𝓖 𝓡 =
     let T = tables 𝓤 H 𝓜 𝓡 code.env in
     entered 𝓤 H (tripleOf 𝓤 H (𝓖 .A) f.signature (f.spec 𝓤 H (𝓖 .A) (𝓜 .mem) (𝓡 .run))) (T .C) (T .Λ) #surface-ffi·ravinefork-blit-from-bytes-rop code.function (code.unfolded 𝓤 H 𝓜 𝓡)
-    (together-meets 𝓤 H (𝓖 .A) (givenOf 𝓤 H 𝓜 𝓖) blits #lent·blit-from-bytes-rop (tablesOf 𝓤 H 𝓜 T) (f.clauses 𝓤 H (𝓖 .A) (𝓜 .mem) (𝓡 .run)) (λ κs a g r zs done. it-says 𝓤 done)
-    (cited 𝓤 H (OnSurface 𝓤 H (𝓖 .A) blits) 𝓜 𝓡 code.env #lent·blit-from-bytes-rop callee-def.routine code.calls-lent·blit-from-bytes-rop (callee-thm.met 𝓤 H 𝓜 𝓖 𝓡)))
+    (together-meets 𝓤 H (𝓖 .A) (givenOf 𝓤 H 𝓜 𝓖) blits #surface-operations·blit-from-bytes-rop (tablesOf 𝓤 H 𝓜 T) (f.clauses 𝓤 H (𝓖 .A) (𝓜 .mem) (𝓡 .run)) (λ κs a g r zs done. it-says 𝓤 done)
+    (cited 𝓤 H (OnSurface 𝓤 H (𝓖 .A) blits) 𝓜 𝓡 code.env #surface-operations·blit-from-bytes-rop callee-def.routine code.calls-surface-operations·blit-from-bytes-rop (callee-thm.met 𝓤 H 𝓜 𝓖 𝓡)))

@@ -6,7 +6,7 @@ use Rattle.surface_operations.proofs.Drawings.{draws-text}
 use Rattle.surface_struct.proofs.Operation.{OnSurface, it-says}
 use Rattle.surface_struct.proofs.Walks.{together-meets}
 use Rattle.surface_operations.proofs.draw_str_u16.Symbol as callee-def
-use Rattle.surface_operations.proofs.draw_str_u16.Symbol.{name as #lent·draw-str-u16}
+use Rattle.surface_operations.proofs.draw_str_u16.Symbol.{name as #surface-operations·draw-str-u16}
 use Rattle.surface_operations.proofs.draw_str_u16.Met as callee-thm
 use Rattle.surface_ffi.proofs.ravinefork_draw_str_u16.Key.{name as #surface-ffi·ravinefork-draw-str-u16}
 use Rattle.surface_ffi.proofs.ravinefork_draw_str_u16 as f
@@ -18,5 +18,5 @@ unfolding code.routine tablesOf
 ravinefork-draw-str-u16-spec 𝓤 H 𝓜 𝓖 𝓡 =
     let T = tables 𝓤 H 𝓜 𝓡 code.env in
     entered 𝓤 H (tripleOf 𝓤 H (𝓖 .A) f.signature (f.spec 𝓤 H (𝓖 .A) (𝓜 .mem) (𝓡 .run))) (T .C) (T .Λ) #surface-ffi·ravinefork-draw-str-u16 code.function (code.unfolded 𝓤 H 𝓜 𝓡)
-    (together-meets 𝓤 H (𝓖 .A) (givenOf 𝓤 H 𝓜 𝓖) draws-text #lent·draw-str-u16 (tablesOf 𝓤 H 𝓜 T) (f.clauses 𝓤 H (𝓖 .A) (𝓜 .mem) (𝓡 .run)) (λ κs a g r zs done. it-says 𝓤 done)
-    (cited 𝓤 H (OnSurface 𝓤 H (𝓖 .A) draws-text) 𝓜 𝓡 code.env #lent·draw-str-u16 callee-def.routine code.calls-lent·draw-str-u16 (callee-thm.met 𝓤 H 𝓜 𝓖 𝓡)))
+    (together-meets 𝓤 H (𝓖 .A) (givenOf 𝓤 H 𝓜 𝓖) draws-text #surface-operations·draw-str-u16 (tablesOf 𝓤 H 𝓜 T) (f.clauses 𝓤 H (𝓖 .A) (𝓜 .mem) (𝓡 .run)) (λ κs a g r zs done. it-says 𝓤 done)
+    (cited 𝓤 H (OnSurface 𝓤 H (𝓖 .A) draws-text) 𝓜 𝓡 code.env #surface-operations·draw-str-u16 callee-def.routine code.calls-surface-operations·draw-str-u16 (callee-thm.met 𝓤 H 𝓜 𝓖 𝓡)))

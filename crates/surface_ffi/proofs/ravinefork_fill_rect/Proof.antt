@@ -6,7 +6,7 @@ use Rattle.surface_operations.proofs.Drawings.{fills}
 use Rattle.surface_struct.proofs.Operation.{OnSurface, it-says}
 use Rattle.surface_struct.proofs.Walks.{together-meets}
 use Rattle.surface_operations.proofs.fill_rect.Symbol as callee-def
-use Rattle.surface_operations.proofs.fill_rect.Symbol.{name as #lent·fill-rect}
+use Rattle.surface_operations.proofs.fill_rect.Symbol.{name as #surface-operations·fill-rect}
 use Rattle.surface_operations.proofs.fill_rect.Met as callee-thm
 use Rattle.surface_ffi.proofs.ravinefork_fill_rect.Key.{name as #surface-ffi·ravinefork-fill-rect}
 use Rattle.surface_ffi.proofs.ravinefork_fill_rect as f
@@ -18,5 +18,5 @@ unfolding code.routine tablesOf
 ravinefork-fill-rect-spec 𝓤 H 𝓜 𝓖 𝓡 =
     let T = tables 𝓤 H 𝓜 𝓡 code.env in
     entered 𝓤 H (tripleOf 𝓤 H (𝓖 .A) f.signature (f.spec 𝓤 H (𝓖 .A) (𝓜 .mem) (𝓡 .run))) (T .C) (T .Λ) #surface-ffi·ravinefork-fill-rect code.function (code.unfolded 𝓤 H 𝓜 𝓡)
-    (together-meets 𝓤 H (𝓖 .A) (givenOf 𝓤 H 𝓜 𝓖) fills #lent·fill-rect (tablesOf 𝓤 H 𝓜 T) (f.clauses 𝓤 H (𝓖 .A) (𝓜 .mem) (𝓡 .run)) (λ κs a g r zs done. it-says 𝓤 done)
-    (cited 𝓤 H (OnSurface 𝓤 H (𝓖 .A) fills) 𝓜 𝓡 code.env #lent·fill-rect callee-def.routine code.calls-lent·fill-rect (callee-thm.met 𝓤 H 𝓜 𝓖 𝓡)))
+    (together-meets 𝓤 H (𝓖 .A) (givenOf 𝓤 H 𝓜 𝓖) fills #surface-operations·fill-rect (tablesOf 𝓤 H 𝓜 T) (f.clauses 𝓤 H (𝓖 .A) (𝓜 .mem) (𝓡 .run)) (λ κs a g r zs done. it-says 𝓤 done)
+    (cited 𝓤 H (OnSurface 𝓤 H (𝓖 .A) fills) 𝓜 𝓡 code.env #surface-operations·fill-rect callee-def.routine code.calls-surface-operations·fill-rect (callee-thm.met 𝓤 H 𝓜 𝓖 𝓡)))

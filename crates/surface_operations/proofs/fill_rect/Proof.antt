@@ -8,7 +8,7 @@ use Rattle.surface_struct.proofs.Walks.{apart-meets}
 use Rattle.fill.proofs.fill_rect.Symbol as callee-def
 use Rattle.fill.proofs.fill_rect.Symbol.{name as #fill·fill-rect}
 use Rattle.fill.proofs.fill_rect.Met as callee-thm
-use Rattle.surface_operations.proofs.fill_rect.Key.{name as #lent·fill-rect}
+use Rattle.surface_operations.proofs.fill_rect.Key.{name as #surface-operations·fill-rect}
 use Rattle.surface_operations.proofs.fill_rect as f
 use Rattle.surface_operations.proofs.fill_rect.Statement as stated
 use Rattle.surface_operations.proofs.fill_rect.Code as code
@@ -17,6 +17,6 @@ pub fill-rect-spec : {M : Type 1} → stated.statement M
 unfolding code.routine tablesOf
 fill-rect-spec 𝓤 H 𝓜 𝓖 𝓡 =
     let T = tables 𝓤 H 𝓜 𝓡 code.env in
-    entered 𝓤 H (tripleOf 𝓤 H (𝓖 .A) f.signature (f.spec 𝓤 H (𝓖 .A) (𝓜 .mem) (𝓡 .run))) (T .C) (T .Λ) #lent·fill-rect code.function (code.unfolded 𝓤 H 𝓜 𝓡)
+    entered 𝓤 H (tripleOf 𝓤 H (𝓖 .A) f.signature (f.spec 𝓤 H (𝓖 .A) (𝓜 .mem) (𝓡 .run))) (T .C) (T .Λ) #surface-operations·fill-rect code.function (code.unfolded 𝓤 H 𝓜 𝓡)
     (apart-meets 𝓤 H (𝓖 .A) (givenOf 𝓤 H 𝓜 𝓖) fills #fill·fill-rect (tablesOf 𝓤 H 𝓜 T) (f.clauses 𝓤 H (𝓖 .A) (𝓜 .mem) (𝓡 .run)) (λ κs a g r zs done. it-says 𝓤 done)
     (cited 𝓤 H (Parts 𝓤 H (𝓖 .A) fills) 𝓜 𝓡 code.env #fill·fill-rect callee-def.routine code.calls-fill·fill-rect (callee-thm.met 𝓤 H 𝓜 𝓖 𝓡)))

@@ -8,7 +8,7 @@ use Rattle.surface_struct.proofs.Walks.{apart-meets}
 use Rattle.fill.proofs.fill_rect_rop.Symbol as callee-def
 use Rattle.fill.proofs.fill_rect_rop.Symbol.{name as #fill·fill-rect-rop}
 use Rattle.fill.proofs.fill_rect_rop.Met as callee-thm
-use Rattle.surface_operations.proofs.fill_rect_rop.Key.{name as #lent·fill-rect-rop}
+use Rattle.surface_operations.proofs.fill_rect_rop.Key.{name as #surface-operations·fill-rect-rop}
 use Rattle.surface_operations.proofs.fill_rect_rop as f
 use Rattle.surface_operations.proofs.fill_rect_rop.Statement as stated
 use Rattle.surface_operations.proofs.fill_rect_rop.Code as code
@@ -17,6 +17,6 @@ pub fill-rect-rop-spec : {M : Type 1} → stated.statement M
 unfolding code.routine tablesOf
 fill-rect-rop-spec 𝓤 H 𝓜 𝓖 𝓡 =
     let T = tables 𝓤 H 𝓜 𝓡 code.env in
-    entered 𝓤 H (tripleOf 𝓤 H (𝓖 .A) f.signature (f.spec 𝓤 H (𝓖 .A) (𝓜 .mem) (𝓡 .run))) (T .C) (T .Λ) #lent·fill-rect-rop code.function (code.unfolded 𝓤 H 𝓜 𝓡)
+    entered 𝓤 H (tripleOf 𝓤 H (𝓖 .A) f.signature (f.spec 𝓤 H (𝓖 .A) (𝓜 .mem) (𝓡 .run))) (T .C) (T .Λ) #surface-operations·fill-rect-rop code.function (code.unfolded 𝓤 H 𝓜 𝓡)
     (apart-meets 𝓤 H (𝓖 .A) (givenOf 𝓤 H 𝓜 𝓖) fills-rop #fill·fill-rect-rop (tablesOf 𝓤 H 𝓜 T) (f.clauses 𝓤 H (𝓖 .A) (𝓜 .mem) (𝓡 .run)) (λ κs a g r zs done. it-says 𝓤 done)
     (cited 𝓤 H (Parts 𝓤 H (𝓖 .A) fills-rop) 𝓜 𝓡 code.env #fill·fill-rect-rop callee-def.routine code.calls-fill·fill-rect-rop (callee-thm.met 𝓤 H 𝓜 𝓖 𝓡)))

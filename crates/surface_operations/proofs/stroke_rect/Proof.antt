@@ -8,7 +8,7 @@ use Rattle.surface_struct.proofs.Walks.{apart-meets}
 use Rattle.outline.proofs.stroke_rect.Symbol as callee-def
 use Rattle.outline.proofs.stroke_rect.Symbol.{name as #outline·stroke-rect}
 use Rattle.outline.proofs.stroke_rect.Met as callee-thm
-use Rattle.surface_operations.proofs.stroke_rect.Key.{name as #lent·stroke-rect}
+use Rattle.surface_operations.proofs.stroke_rect.Key.{name as #surface-operations·stroke-rect}
 use Rattle.surface_operations.proofs.stroke_rect as f
 use Rattle.surface_operations.proofs.stroke_rect.Statement as stated
 use Rattle.surface_operations.proofs.stroke_rect.Code as code
@@ -17,6 +17,6 @@ pub stroke-rect-spec : {M : Type 1} → stated.statement M
 unfolding code.routine tablesOf
 stroke-rect-spec 𝓤 H 𝓜 𝓖 𝓡 =
     let T = tables 𝓤 H 𝓜 𝓡 code.env in
-    entered 𝓤 H (tripleOf 𝓤 H (𝓖 .A) f.signature (f.spec 𝓤 H (𝓖 .A) (𝓜 .mem) (𝓡 .run))) (T .C) (T .Λ) #lent·stroke-rect code.function (code.unfolded 𝓤 H 𝓜 𝓡)
+    entered 𝓤 H (tripleOf 𝓤 H (𝓖 .A) f.signature (f.spec 𝓤 H (𝓖 .A) (𝓜 .mem) (𝓡 .run))) (T .C) (T .Λ) #surface-operations·stroke-rect code.function (code.unfolded 𝓤 H 𝓜 𝓡)
     (apart-meets 𝓤 H (𝓖 .A) (givenOf 𝓤 H 𝓜 𝓖) strokes #outline·stroke-rect (tablesOf 𝓤 H 𝓜 T) (f.clauses 𝓤 H (𝓖 .A) (𝓜 .mem) (𝓡 .run)) (λ κs a g r zs done. it-says 𝓤 done)
     (cited 𝓤 H (Parts 𝓤 H (𝓖 .A) strokes) 𝓜 𝓡 code.env #outline·stroke-rect callee-def.routine code.calls-outline·stroke-rect (callee-thm.met 𝓤 H 𝓜 𝓖 𝓡)))
