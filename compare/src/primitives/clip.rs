@@ -1,7 +1,7 @@
 //! Where a case draws, for the tally.
 
 use super::case::Case;
-use super::surface_operations::Lent;
+use super::lent::Lent;
 use crate::clip::{self, Axis, Stretch};
 use pocket_kernel::font::{GLYPH_H, GLYPH_W};
 

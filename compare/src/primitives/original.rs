@@ -7,7 +7,7 @@ use pocket_kernel::gdi::Surface;
 use super::canvas::Canvas;
 use super::case::{generated, text, Case, MEMORY};
 use super::colors;
-use super::surface_operations::Lent;
+use super::lent::Lent;
 use crate::crc::crc32;
 use crate::overflow::{caught, Overflow};
 

@@ -1,7 +1,7 @@
 //! Random cases: at every edge of the surface, far away, and at the ends of i32.
 
 use super::case::{Case, MAX_COUNT, MAX_SIDE, MAX_SOURCE, MEMORY};
-use super::surface_operations::Lent;
+use super::lent::Lent;
 use super::script::Script;
 use super::tally::Tally;
 use crate::argument::Units;

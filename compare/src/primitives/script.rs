@@ -2,7 +2,7 @@
 //! printed for them.
 
 use super::case::{Case, ANSWERS, LONGEST, MAGIC, PICTURE};
-use super::surface_operations::Lent;
+use super::lent::Lent;
 use super::original::Original;
 use super::tally::Tally;
 use crate::overflow::Overflow;

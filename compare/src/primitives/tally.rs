@@ -5,7 +5,7 @@ use std::fmt;
 
 use super::case::{Case, KINDS};
 use super::clip::{boxed, skipped};
-use super::surface_operations::Lent;
+use super::lent::Lent;
 use super::original::Outcome;
 use crate::clip::{cuts, moved, CUTS, MOVES};
 use crate::counts::listed;
