@@ -1,5 +1,4 @@
--- Laws of two's complement, over the number from which on it is negative, and of the machine words that hold it.
--- Assumes nothing.
+-- Laws of two's complement, with the first negative number as a parameter, and of the machine words that hold it. Assumes nothing.
 use mathlib.Core.Path.{_≡_, ap, sym, _∙_}
 use Prim.Native.Nat.{ℕ, suc, _*_, _-_, _≤_, _<_, _^_}
 use native.Mathlib.Decide.{decLt}

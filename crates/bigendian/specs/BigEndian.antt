@@ -14,7 +14,7 @@ be16 s at = 256 * getD s at 0 + getD s (at + 1) 0
 abbrev pub be32 : List ℕ → ℕ → ℕ
 be32 s at = 65536 * be16 s at + be16 s (at + 2)
 
--- the integer whose two's complement is n, where numbers from half on are negative ones
+-- the integer whose two's complement is n; numbers from half on are negative
 abbrev pub signed : ℕ → ℕ → ℤ
 signed half n = cond (ltb n half) (pos n) (pos n -ℤ pos (2 * half))
 

@@ -1,5 +1,5 @@
--- The definition is that of zlib and PNG: the CRC catalogue's check value, that of the nine bytes `123456789`, and that of PNG's last chunk, `IEND`.
--- Assumes nothing.
+-- The definition is the CRC-32 of zlib and PNG: it gives the CRC catalogue's check value, that of the nine bytes `123456789`, and the
+-- CRC of PNG's last chunk, `IEND`. Assumes nothing.
 use mathlib.Core.Path.{_≡_, refl}
 use mathlib.Core.List.{[], _∷_}
 use Rattle.crc32.specs.Crc32.{bitStep, bitSteps, byteStep, byteSteps, crc32}

@@ -1,4 +1,4 @@
--- The cases of a mark. Assumes nothing.
+-- The cases of a dirty mark. Assumes nothing.
 use mathlib.Core.Path.{_≡_, sym, _∙_}
 use Prim.Native.Nat.{ℕ, _+_, _%_}
 use lib.ListN.{set}
@@ -25,7 +25,7 @@ module _ (b : GdiState) {s : SurfaceId} {h : ℕ} (e : s ≡ Bitmap h) where
   mark-stock q = rw (e, eq-eqb _ _ q)
 
   module _ (ne : h ≡ stockBitmap → ⊥) where
-    -- the slot as it was handed on
+    -- the slot that was passed
     pub slot-found : {q f : Found} → q ≡ slotFor b s → q ≡ f → findOf b h ≡ f
     slot-found g f = sym (g ∙ rw (e, ne-eqb _ _ ne)) ∙ f
 

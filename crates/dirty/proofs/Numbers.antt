@@ -1,4 +1,4 @@
--- A flat record into which a mark was written is the record with that mark. Assumes nothing.
+-- A flat record into which a dirty mark was written encodes the record with that mark. Assumes nothing.
 use mathlib.Core.Bool.{Bool, true, false}
 use mathlib.Core.List.{List}
 use mathlib.Core.Path.{_≡_, refl, sym, _∙_, ap, subst}
@@ -25,7 +25,7 @@ use Rattle.numbers.proofs.Updates.{frames-seen, stock-seen as stock-same, bitma
 use Rattle.numbers.proofs.Kept.{updated-same, Kept, kept-all, kept-set, part-kept, table-kept, front-record, front-rest, slot-updated}
 use Rattle.lookup.proofs.Updates.{slot-from}
 
--- a record that is the same as another
+-- an equal record
 pub updated-as : {l l′ : List ℕ} {b b′ : GdiState} → b ≡ b′ → Updated l b l′ → Updated l b′ l′
 updated-as {l} {l′} e s = subst (λ (b : GdiState). Updated l b l′) e s
 
@@ -91,7 +91,7 @@ module _ (l : List ℕ) (r : isRecord l ≡ true) (i : ℕ) (lt : i < at l count
   pub room : slotPlace i + slotSize ≤ length l
   room = omega (arith, lt, parts l r .few, parts l r .long)
 
-  -- a slot that is no bitmap's
+  -- a slot that holds no bitmap
   pub other-kept : (at l (slotPlace i + kindPlace) ≡ 1 → ⊥) → Updated l slotMarked l
   other-kept ne = slot-updated l l r i lt (kept-all l (slotPlace i) slotSize) (record { is-slot = parts l r .slots i lt; same = same ∙ ap slotDirtied (sym seen) })
     where
@@ -109,7 +109,7 @@ module _ (l : List ℕ) (r : isRecord l ≡ true) (i : ℕ) (lt : i < at l count
           ap (λ (o : GdiObject). record { handle = at slot handlePlace; object = o })
           (by-kind (at slot kindPlace) (part slot objectPlace objectSize) (λ o. o ≡ objectDirtied o) (λ e. refl) (λ e. absurd (kind e)) (λ x. refl) (λ x. refl) (λ x. refl))
 
-  -- a bitmap's slot that took the mark
+  -- the slot of a bitmap that was marked
   bitmap-updated : at l (slotPlace i + kindPlace) ≡ 1 → (l′ : List ℕ) → Kept l (slotPlace i + bitmapDirtyPlace) 1 l′ → at l′ (slotPlace i + bitmapDirtyPlace) ≡ 1 → Updated l slotMarked l′
   bitmap-updated one l′ kept mark = slot-updated l l′ r i lt (record { long = kept .long; same = λ k out. kept .same k (λ a b. out (omega arith) (omega arith)) }) put
     where
@@ -152,7 +152,7 @@ module _ (l : List ℕ) (r : isRecord l ≡ true) (i : ℕ) (lt : i < at l count
       bitmap-updated one (set l (slotPlace i + bitmapDirtyPlace) 1) (kept-set (slotPlace i + bitmapDirtyPlace) 1 (kept-all l (slotPlace i + bitmapDirtyPlace) 1) (omega arith) (omega arith))
       (getD-set-same l (slotPlace i + bitmapDirtyPlace) 1 0 (omega (arith, room)))
 
--- as the code stores them
+-- the same, as the code stores the numbers
 module _ (l : List ℕ) (r : isRecord l ≡ true) where
   pub stock-set : Updated l (withStockDirty (view l)) (set l stockDirtyPlace 1)
   stock-set = stock-updated l (set l stockDirtyPlace 1) r (kept-set stockDirtyPlace 1 (kept-all l stockDirtyPlace 1) (omega arith) (omega arith)) (getD-set-same l stockDirtyPlace 1 0 (omega (arith, parts l r .long)))

@@ -55,7 +55,7 @@ dc-coded d =
       same = rw (surface-back (d .surface), bitmap-back (d .«selected_bitmap»), flag-back (d .«bk_transparent»));
     }
 
--- those of the other objects
+-- the numbers of the other objects
 pub bitmap-coded : (m : Bitmap) → ObjectCoded (BitmapOf m) 1 (m .width ∷ m .height ∷ flagNumber (m .«host_dirty») ∷ 0 ∷ 0 ∷ 0 ∷ 0 ∷ 0 ∷ 0 ∷ 0 ∷ 0 ∷ 0 ∷ [])
 unfolding objectOf isObject
 bitmap-coded m = record { is-object = rw (flag-flag (m .«host_dirty»)); same = rw (flag-back (m .«host_dirty»)) }
@@ -72,7 +72,7 @@ pub font-coded : (x : FontRecord) (n : ℕ) → SFits w32 (x .height) → signed
 unfolding objectOf isObject
 font-coded x n f e = record { is-object = refl; same = ap (λ (z : ℤ). Font (record { height = z })) (e ∙ stored32 (x .height) f) }
 
--- a slot: the object's part, then handle and kind in front of it
+-- a slot: the object's numbers, then handle and kind before them
 pub slot-coded : {o : GdiObject} {kind : ℕ} (h : ℕ) (l b : List ℕ) → length l ≡ slotSize → length b ≡ objectSize → ObjectCoded o kind b → SlotCoded (record { handle = h; object = o }) (set (set (lentBack l objectPlace objectSize b) handlePlace h) kindPlace kind)
 slot-coded {o} {kind} h l b long len coded =
     record {

@@ -24,7 +24,7 @@ module _ (z : ℤ) (f : SFits w32 z) where
     below : positive z ≡ 0
     below = tested-negative z (rw (stored32 z f) at tested)
 
-    -- below 0: n more
+    -- a negative integer: its two's complement is n more
     module _ {n : ℕ} (low : 2 ^ 31 ≤ n) (high : n ≤ 2 ^ 32) where
       abbrev turned : ℤ
       turned = held64 (held32 z) +ℤ pos n
@@ -41,14 +41,14 @@ module _ (z : ℤ) (f : SFits w32 z) where
       pub turned-cast : T (nonNeg (held64 turned)) × Fits w32 (natAbs (held64 turned))
       turned-cast = rw turned-held (not-negative (pos (n - negative z)) (omega arith), record { fits = omega (arith, below, less) })
 
-    -- 2³² more
+    -- with n = 2³²
     pub turned-back : signed32 (natAbs (held64 (held64 (held32 z) +ℤ pos 4294967296))) ≡ z
     turned-back =
         let number : ℕ = 4294967296 - negative z in
         rw (turned-held {n = 4294967296} (omega arith) (omega arith))
         (from-half (2 ^ 31) {n = number} (omega (arith, below, less, range32 z f)) ∙ eq-parts (pos number -ℤ pos (2 * 2 ^ 31)) z (omega (arith, below, less, difference (pos number) (pos (2 * 2 ^ 31)), range32 z f)))
 
-  -- from 0 on: itself
+  -- an integer from 0 on is its own two's complement
   module _ (tested : ltZ (held32 z) (pos 0) ≡ false) where
     from : negative z ≡ 0
     from = tested-positive z (rw (stored32 z f) at tested)

@@ -1,4 +1,4 @@
--- The record with one object more: its slots are those before with the new one behind them, and it is sound again. Assumes nothing.
+-- The record with one more object: its slots are those before and the new one after them, and it is sound. Assumes nothing.
 use mathlib.Core.Bool.{Bool, true, false, not, _&&_}
 use mathlib.Core.List.{List, [], _∷_, _++_}
 use mathlib.Core.Path.{_≡_, _∙_, ap}

@@ -1,4 +1,4 @@
--- Examples of new handles, each computed; that stock handles are stepped over is one of crates/examples. Assumes nothing.
+-- Computed examples of new handles; crates/examples has the one in which stock handles are skipped. Assumes nothing.
 use mathlib.Core.Path.{_≡_, refl}
 use Prim.Native.Nat.{ℕ}
 use Rattle.gdi.specs.declared.GdiState.{GdiState}
@@ -12,7 +12,7 @@ use Rattle.handles.specs.Handles.{free, firstFree, newHandle, added}
 abbrev withNext : GdiState → ℕ → GdiState
 withNext b h = withObjects b h (b .count) (b .objects)
 
--- a device without objects, at this next handle
+-- a device without objects, with this next handle
 abbrev deviceAt : ℕ → GdiState
 deviceAt h = withNext (fresh 2 12 1 1) h
 

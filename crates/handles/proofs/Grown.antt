@@ -1,5 +1,5 @@
--- Numbers in which a slot was put behind the last object, and the count grew by one, are the record with that object. Assumes
--- nothing.
+-- Numbers in which a slot was written after the last object and the count was raised by one encode the record with that object.
+-- Assumes nothing.
 use mathlib.Core.Bool.{Bool, true, cond}
 use mathlib.Core.List.{List}
 use mathlib.Core.Path.{_≡_, sym, _∙_, ap}
@@ -28,11 +28,11 @@ use Rattle.numbers.proofs.Updates.{KeptBut, objects-seen}
 use Rattle.numbers.proofs.Kept.{Kept, kept-all, kept-set, kept-part, part-kept, tail-kept}
 use Rattle.handles.specs.Handles.{ahead, inserted, addedAs}
 
--- the slot i of n, by the numbers of another record's slot i of m
+-- slot i of n, from the numbers of slot i of m of another record
 slot-as : (l l′ : List ℕ) (m n i : ℕ) → ltb i n ≡ ltb i m → part l′ (slotPlace i) slotSize ≡ part l (slotPlace i) slotSize → slotIn l′ n i ≡ slotIn l m i
 slot-as l l′ m n i e f = rw (e, f)
 
--- l, with a slot put behind its last object, and then with another next handle and one object more
+-- l with a slot written after its last object, and then with another next handle and a count of one more
 module _ (l m l′ : List ℕ) (r : isRecord l ≡ true) (few : at l countPlace < 256) (put : Kept l (slotPlace (at l countPlace)) slotSize m) (counted : Kept m 0 headSize l′) (same : KeptBut m l′ nextHandlePlace countPlace)
     {next : ℕ} (named : at l′ nextHandlePlace ≡ next) (count : at l′ countPlace ≡ at l countPlace + 1) {s : Slot} (coded : SlotCoded s (part m (slotPlace (at l countPlace)) slotSize)) where
   number : KeptBut l l′ nextHandlePlace countPlace
@@ -82,7 +82,7 @@ module _ (l m l′ : List ℕ) (r : isRecord l ≡ true) (few : at l countPlace 
   grown : Updated l (withObjects (view l) next (view l .count + 1) (inserted (view l .objects) (view l .count) s)) l′
   grown = record { is-record = again; same = seen; rest = rest }
 
--- as the code lends the slot, has it back, and stores the two numbers
+-- the same, as the code lends the slot and stores the two numbers
 module _ (l : List ℕ) (r : isRecord l ≡ true) (few : at l countPlace < 256) where
   pub room : slotPlace (at l countPlace) + slotSize ≤ length l
   room = omega (arith, parts l r .long)

@@ -1,4 +1,4 @@
--- Of more handles in a row than there are taken ones, one is free. Assumes nothing.
+-- Among more consecutive handles than are taken, one is free. Assumes nothing.
 use mathlib.Core.Bool.{Bool, true, false, cond, not, _&&_, _||_, false≢true}
 use mathlib.Core.List.{List, [], _∷_, _++_}
 use mathlib.Core.Path.{_≡_, refl, sym, _∙_, ap}
@@ -53,7 +53,7 @@ pigeon f (suc m) l apart all =
       pigeon f m (without (f m) l) (λ i j a b. apart i j a (omega arith)) (λ i a. without-has (f m) (f i) l (apart i m a (omega arith)) (all i (omega arith))),
     )
 
--- n numbers from a on
+-- the n numbers from a on
 abbrev range : ℕ → ℕ → List ℕ
 range a zero = []
 range a (suc n) = (a + n) ∷ range a n
@@ -135,7 +135,7 @@ taken-has l n x e = by (eqb x 0) refl (isStock x) refl (absent l n x) refl e
     by false a false b false c f = has-right (0 ∷ []) (three ++ (row ++ handles l n)) x (has-right three (row ++ handles l n) x (has-right row (handles l n) x (handles-has l n x c)))
     by false a false b true c f = clash (sym f)
 
--- a search that ends on a handle that is not free passed none
+-- a search that ends on a handle that is not free passed no free one
 passed : (l : List Slot) (n h k m : ℕ) → free l n (firstFree l n h k m) ≡ false → (i : ℕ) → k ≤ i → i < k + m → free l n (ahead h i) ≡ false
 unfolding firstFree
 passed l n h k zero e i a b = absurd (omega arith)

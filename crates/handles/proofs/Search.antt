@@ -1,4 +1,4 @@
--- The steps of the search for a free handle, the cases of its test, and the record that appending makes. Assumes nothing.
+-- The steps of the search for a free handle, the cases of its test, and the record with an appended object. Assumes nothing.
 use mathlib.Core.Bool.{Bool, true, false}
 use mathlib.Core.List.{List}
 use mathlib.Core.Path.{_≡_}
@@ -26,7 +26,7 @@ module _ (l : List Slot) (n h : ℕ) where
     unfolding free
     by-absent e f = rw (ne-eqb _ _ ne, e) f
 
--- the search's steps, as the loop of `alloc_handle` takes them
+-- the steps of the search, as the loop of `alloc_handle` makes them
 module _ (l : List Slot) (n h i : ℕ) where
   pub hit : i < tries → free l n (ahead h i) ≡ true → firstFree l n h i (tries - i) ≡ ahead h i
   unfolding firstFree

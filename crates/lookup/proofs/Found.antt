@@ -22,7 +22,7 @@ use Rattle.numbers.specs.Block.{at, objectOf, dcFields as dcNumbers}
 use Rattle.numbers.specs.View.{view, isRecord}
 use Rattle.numbers.proofs.Seen.{count-seen, found-in, screen-seen, record-length, record-count, object-seen, object-dc, by-kind}
 
--- the scan as the loop starts it
+-- the scan at the start of the loop
 pub scan-start : (l : List ℕ) (h : ℕ) → scan (view l .objects) h 0 (at l countPlace - 0) ≡ findOf (view l) h
 scan-start l h = start (view l .objects) h 0 (at l countPlace) refl ∙ ap (scan (view l .objects) h 0) (sym (count-seen l))
 
@@ -30,7 +30,7 @@ scan-start l h = start (view l .objects) h 0 (at l countPlace) refl ∙ ap (scan
 pub dc-of-screen : (l : List ℕ) (h : ℕ) {d : Dc} → h ≡ 0xDEAD_0DC0 → d ≡ dcNumbers (part l screenPlace dcSize) → Is Screen d ≡ dcOf (view l) h
 dc-of-screen l h e f = ap (Is Screen) (f ∙ sym (screen-seen l)) ∙ dc-screen (view l) h e
 
--- an object's slot that is found
+-- a slot that was found holds an object
 module _ (l : List ℕ) (r : isRecord l ≡ true) (h : ℕ) {q : Found} (e : q ≡ findOf (view l) h) {i : ℕ} (g : q ≡ At i) where
   below : i < at l countPlace
   below = found-in l h (sym e ∙ g)

@@ -103,7 +103,7 @@ module _ (l : List ℕ) (r : isRecord l ≡ true) where
     object-size : slotPlace i + slotSize - (slotPlace i + objectPlace) ≡ objectSize
     object-size = omega arith
 
-    -- the same, with the part as the code lends it and has it back
+    -- the same, with the part as the code lends it
     pub updated-created : {d : Dc} (xs : List ℕ) → length xs ≡ length (take (slotPlace i + slotSize - (slotPlace i + objectPlace)) (drop (slotPlace i + objectPlace) l)) → DcCoded d xs
         → Updated l (withDc (view l) h p d) (take (slotPlace i + objectPlace) l ++ (xs ++ drop (slotPlace i + slotSize - (slotPlace i + objectPlace)) (drop (slotPlace i + objectPlace) l)))
     updated-created xs len coded =

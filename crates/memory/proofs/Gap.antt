@@ -1,4 +1,4 @@
--- Laws of a list whose gap is closed: what is read there, what its parts are, and that a move down and a fill close it. Assumes nothing.
+-- Laws of a list whose gap is closed: its elements, its parts, and that a move down and a fill close the gap. Assumes nothing.
 use mathlib.Core.List.{List, [], _∷_, _++_, append-assoc}
 use mathlib.Core.Path.{_≡_, refl, sym, _∙_, ap}
 use Prim.Native.Nat.{ℕ, suc, _+_, _-_, _≤_, _<_}
@@ -18,7 +18,7 @@ module _ {ℓ} {A : Type ℓ} (z : A) (l : List A) (p n used : ℕ) (gap : p + n
   moved : length (take (used - (p + n)) (drop (p + n) l)) ≡ used - (p + n)
   moved = simp (length-take, length-drop) (omega arith)
 
-  -- what is read before the gap, and behind it
+  -- the elements before the gap, and after it
   pub closed-below : (d : A) (j : ℕ) → j < p → getD (closedUp z l p n used) j d ≡ getD l j d
   closed-below d j lt = List·getD-append (take p l) _ d j (omega (arith, front)) ∙ getD-take p l j d lt
 
@@ -33,7 +33,7 @@ module _ {ℓ} {A : Type ℓ} (z : A) (l : List A) (p n used : ℕ) (gap : p + n
       ∙ getD-drop (p + n) l (j - p) d
       ∙ ap (λ (i : ℕ). getD l i d) f
 
-  -- the freed tail is z, and what lies from used on is kept
+  -- the freed end is z, and the elements from used on are kept
   closed-behind : (d : A) (j : ℕ) → used - n ≤ j → getD (closedUp z l p n used) j d ≡ getD (replicate n z ++ drop used l) (j - (used - n)) d
   closed-behind d j le =
       let e : j ≡ length (take p l) + (j - p) = omega (arith, front) in
@@ -59,7 +59,7 @@ module _ {ℓ} {A : Type ℓ} (z : A) (l : List A) (p n used : ℕ) (gap : p + n
       ∙ getD-drop used l (j - used) d
       ∙ ap (λ (i : ℕ). getD l i d) f
 
-  -- a part before the gap stays, one behind it moves down
+  -- a part before the gap stays, a part after it moves down
   pub part-below : (d : A) (q k : ℕ) → q + k ≤ p → take k (drop q (closedUp z l p n used)) ≡ take k (drop q l)
   part-below d q k le =
       ext-getD d (take k (drop q (closedUp z l p n used))) (take k (drop q l)) (simp (length-take, length-drop, closed-length))
@@ -78,7 +78,7 @@ module _ {ℓ} {A : Type ℓ} (z : A) (l : List A) (p n used : ℕ) (gap : p + n
       ∙ ap (λ (j : ℕ). getD l j d) f
       ∙ sym (getD-take k (drop (q + n) l) i d c ∙ getD-drop (q + n) l i d))
 
-  -- the two loops: a move down, and a fill of the freed tail
+  -- the two loops: a move down, and a fill of the freed end
   pub two-pastes : (t : List A) → t ≡ paste l p (drop (p + n) l) (used - n - p) → paste t (used - n) (replicate n z) n ≡ closedUp z l p n used
   two-pastes t e =
       let m : used - n ≡ p + (used - n - p) = omega arith in
@@ -93,7 +93,7 @@ module _ {ℓ} {A : Type ℓ} (z : A) (l : List A) (p n used : ℕ) (gap : p + n
       (append-assoc (take p l ++ take (used - n - p) (drop (p + n) l)) (replicate n z) (drop used l)
       ∙ append-assoc (take p l) (take (used - n - p) (drop (p + n) l)) (replicate n z ++ drop used l))
 
--- a gap of nothing
+-- an empty gap
 pub closed-none {ℓ} : {A : Type ℓ} (z : A) (l : List A) (p n used : ℕ) → n ≡ 0 → p ≤ used → l ≡ closedUp z l p n used
 closed-none z l p n used e le =
     let f : p + 0 ≡ p = omega arith in

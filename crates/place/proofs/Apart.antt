@@ -76,7 +76,7 @@ frame-before (Brush x) p v f = no-first
 frame-before (Pen x) p v f = no-first
 frame-before (Font x) p v f = no-first
 
--- two handles of one list
+-- bitmaps with different handles in one list
 located-apart : (l : List Slot) (p h k : ℕ) → eqb h k ≡ false → Apart (locate l p h) (locate l p k)
 unfolding locate
 located-apart [] p h k ne = no-first
@@ -122,7 +122,7 @@ apart b (Bitmap h) (Bitmap k) e = by (eqb h stockBitmap) (eqb k stockBitmap) ref
     by false true f g = turn (stock-apart _ (locate-from (live b) 2 2 h (omega arith)))
     by false false f g = located-apart (live b) 2 h k e
 
--- the m slots from i on, where pixels start at p
+-- the m slots from i on, whose pixels start at p
 locate-within : (b : GdiState) → isSound b ≡ true → (h m i p : ℕ) → i + m ≡ b .count → p ≡ startOf b i
     → Within (b .«panel_len») (b .«store_len») (locate (slotsFrom (b .objects) i m) p h)
 unfolding locate slotsFrom

@@ -37,7 +37,7 @@ module _ (l : List ℕ) (p start : ℕ) where
   frame-other b =
       by-kind (at l (p + kindPlace)) (part l (p + objectPlace) objectSize) (λ o. Nowhere ≡ placeFrom o start) (λ e. refl) (λ e. absurd (b e)) (λ x. refl) (λ x. refl) (λ x. refl)
 
--- what the search from i on finds, where pixels start, is what the whole search finds
+-- the search from slot i on, at the start of its pixels, finds what the whole search finds
 pub record Sought (l : List ℕ) (h i start : ℕ) : Type 0 where
   pub begin : start ≡ startOf (view l) i
   pub place : locatedFrom (view l) h i start ≡ locate (live (view l)) 2 h
@@ -55,7 +55,7 @@ module _ (l : List ℕ) (r : isRecord l ≡ true) (s : isSound (view l) ≡ true
     object-sound = fits-seen l r i lt (parts (view l) s .slots)
 
     module _ {h start : ℕ} (inv : Sought l h i start) where
-      -- the object of the handle was found at i, where pixels start
+      -- the object with the handle was found in slot i, at the start of its pixels
       pub located-seen : {q : Place} → at l (slotPlace i) ≡ h → q ≡ placeFrom (objectFrom l (slotPlace i)) start → Located (view l) h (site q (InSlot i))
       located-seen f g =
           let e = handle-seen l r i lt ∙ f in

@@ -29,7 +29,7 @@ use Rattle.place.specs.declared.SurfaceId.the-variants.{Panel, Bitmap}
 use Rattle.place.specs.Place.{slotsFrom, live, placeFrom, locate, lengthOf, Inside, Within}
 use Rattle.place.specs.Inner.{Located, SiteFound}
 
--- what is located among the slots from i on, if their pixels lie from byte p on
+-- the search among the slots from i on, whose pixels start at byte p
 abbrev pub locatedFrom : GdiState → (h i p : ℕ) → Place
 locatedFrom b h i p = locate (slotsFrom (b .objects) i (b .count - i)) p h
 
@@ -62,7 +62,7 @@ fits-inside {len} {p} {w} {h} a b le =
     let y = side-range h b in
     record { fits = le; some = x .0; wide = x .1; some-rows = y .0; high = y .1 }
 
--- the frame of an object that fits and has room
+-- the place of an object that is sound and has room
 pub frame-within : (o : GdiObject) (n k p : ℕ) → objectFits o ≡ true → p + bytesOf o ≤ k → Within n k (placeFrom o p)
 frame-within (DcOf d) n k p e le = tt
 frame-within (BitmapOf m) n k p e le = let s = both (side (m .width)) (side (m .height)) e in fits-inside (s .0) (s .1) le
@@ -80,7 +80,7 @@ object-within b s i p lt e =
 abbrev pub site : Place → Found → Site
 site at slot = record { at = at; slot = slot }
 
--- the object of the handle was found at i, where pixels start at p
+-- the object with the handle was found in slot i, whose pixels start at p
 pub located : (b : GdiState) → isSound b ≡ true → (h i p : ℕ) {r : Place} → i < b .count → handleAt (b .objects) i ≡ h
     → p ≡ startOf b i → locatedFrom b h i p ≡ locate (live b) 2 h → InSlot i ≡ findOf b h → r ≡ placeFrom (objectAt b i) p → Located b h (record { at = r; slot = InSlot i })
 located b s h i p lt e q inv g f =
@@ -100,10 +100,10 @@ module _ (b : GdiState) (sound : isSound b ≡ true) {u : SurfaceId} where
   pub placed-created : {h : ℕ} {r : Site} → u ≡ Bitmap h → (h ≡ stockBitmap → ⊥) → Located b h r → SiteFound b u r
   placed-created e ne l = record { same = rw (e, ne-eqb _ _ ne) (l .same); within = l .within }
 
--- a surface's pixels can be counted
+-- the number of a surface's pixels fits a machine word
 pub few-pixels : {len p w h : ℕ} → Inside len p w h → w * h ≤ 16777216
 few-pixels i = mul-le-mul (i .wide) (i .high)
 
--- what is known of a place that was taken apart
+-- what is known of the parts of a place
 pub taken-apart : (n k : ℕ) {at : Place} {m : Memory} (v : Memory) {p w h : ℕ} → Within n k at → at ≡ At m p w h → m ≡ v → Inside (lengthOf n k v) p w h
 taken-apart n k v {p} {w} {h} i e f = subst (λ (u : Memory). Inside (lengthOf n k u) p w h) f (subst (Within n k) e i)

@@ -1,4 +1,4 @@
--- A record whose slots keep handle, frame and size has its surfaces in the same places, so one with a changed DC. Assumes nothing.
+-- A record whose slots keep handle, place and size has its surfaces in the same places; a changed DC is an example. Assumes nothing.
 use mathlib.Core.Bool.{true, not, cond}
 use mathlib.Core.List.{List, [], _∷_}
 use mathlib.Core.Path.{_≡_, refl, sym, _∙_, ap}
@@ -31,7 +31,7 @@ use Rattle.place.specs.Place.{slotsFrom, placeFrom, locate, whereIs}
 abbrev pub SamePlaces : GdiState → GdiState → Type 0
 SamePlaces b b′ = (u : SurfaceId) → whereIs b′ u ≡ whereIs b u
 
--- The second record has every surface where the first has it, is sound if the first is, and has the first's lengths.
+-- The second record has every surface in the same place as the first, is sound if the first is, and has the same lengths.
 pub record Still (b b′ : GdiState) : Type 0 where
   pub places : SamePlaces b b′
   pub sound : isSound b ≡ true → isSound b′ ≡ true
@@ -86,7 +86,7 @@ module _ (l n : List Slot) (kept : (j : ℕ) → Kept (getD l j noSlot) (getD n 
   same-distinct : (m : ℕ) → distinct l m ≡ distinct n m
   same-distinct m = all-same m _ _ (λ j lt. same-absent j (handleAt l j) ∙ ap (absent n j) (kept j .handle))
 
--- a record with other slots, each of which is kept
+-- a record with other slots, each of which keeps what places depend on
 module _ (b : GdiState) (next : ℕ) (l : List Slot) (kept : (j : ℕ) → Kept (getD l j noSlot) (slotAt b j)) where
   pub kept-places : SamePlaces b (withObjects b next (b .count) l)
   kept-places Panel = refl
@@ -130,7 +130,7 @@ module _ (b : GdiState) (dc : ℕ) {p : Spot} {d₀ : Dc} (d : Dc) where
       by Screen e (Bitmap h) = refl
       by (Created i) e u = kept-places b (b .«next_handle») (set (b .objects) i (dcSlot dc d)) (dc-kept b dc d e) u
 
-  -- and the record sound
+  -- and keep the record sound
   pub updated-sound : isSound b ≡ true → dcOf b dc ≡ Is p d₀ → d .surface ≡ d₀ .surface → isSound (withDc b dc p d) ≡ true
   unfolding isSound
   updated-sound s e f = by p e ∙ s

@@ -1,4 +1,4 @@
--- The plain loops leave what the general definition says at their tables. Assumes nothing.
+-- The plain loops do what the general definition says at their tables. Assumes nothing.
 use mathlib.Core.Bool.{Bool}
 use mathlib.Core.List.{List}
 use mathlib.Core.Path.{_≡_, refl}

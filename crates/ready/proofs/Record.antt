@@ -19,7 +19,7 @@ pub panel-seen : (l : List ℕ) → size (view l .width) (view l .height) ≤ vi
 unfolding view
 panel-seen l h = h
 
--- the last test, where the other parts are in order
+-- the last test, where the other parts hold
 pub sound-seen : (l : List ℕ) {end : ℕ} → at l panelLenPlace ≤ limit → at l storeLenPlace ≤ limit → at l countPlace ≤ 256 → side (at l widthPlace) ≡ true → side (at l heightPlace) ≡ true
     → 2 * (at l widthPlace * at l heightPlace) ≤ at l panelLenPlace → slotsFit (view l) ≡ true → distinct (view l .objects) (view l .count) ≡ true → end ≡ used (view l)
     → leb end (at l storeLenPlace) ≡ isSound (view l)
@@ -38,7 +38,7 @@ module _ (l : List ℕ) where
   pub by-soundness : {t : Bool} → isRecord l ≡ true → t ≡ isSound (view l) → t ≡ (isRecord l && isSound (view l))
   by-soundness r e = rw r e
 
-  -- numbers whose head is in order: the slots are what is left
+  -- numbers whose head is well formed: only the slots remain to be tested
   module _ (h : isHead l ≡ true) where
     pub of-slots : areSlots l (at l countPlace) ≡ true → isRecord l ≡ true
     of-slots s = rw (h, s) at (head-and-slots l)

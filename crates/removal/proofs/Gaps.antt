@@ -1,4 +1,4 @@
--- The bytes of an object that is taken out, among those of the store. Assumes nothing.
+-- The bytes of a removed object lie in the store. Assumes nothing.
 use mathlib.Core.Bool.{true}
 use mathlib.Core.List.{List}
 use mathlib.Core.Path.{_≡_, sym, _∙_, ap}

@@ -1,4 +1,5 @@
--- The record without one of its objects: its slot and its handle are gone, and every other bitmap lies where it lay or lower. Assumes nothing.
+-- The record without one of its objects: the slot and the handle are gone, and every other bitmap keeps its place or moves down.
+-- Assumes nothing.
 use mathlib.Core.Bool.{Bool, true, false, cond}
 use mathlib.Core.List.{List}
 use mathlib.Core.Path.{_≡_, refl, sym, _∙_, ap, subst}
@@ -25,7 +26,7 @@ use Rattle.place.specs.declared.SurfaceId.the-variants.{Bitmap}
 use Rattle.place.specs.Place.{slotsFrom, live, placeFrom, locate, whereIs}
 use Rattle.removal.specs.Removal.{withoutAt}
 
--- an object's bytes lie among those used, and these in the store
+-- an object's bytes are among those in use, and these lie in the store
 pub record RoomAt (b : GdiState) (i : ℕ) : Type 0 where
   pub among : startOf b i + bytesOf (objectAt b i) ≤ used b
   pub stored : used b ≤ b .«store_len»
@@ -33,7 +34,7 @@ pub record RoomAt (b : GdiState) (i : ℕ) : Type 0 where
 pub room-of : {b : GdiState} → Sound b → (i : ℕ) → i < b .count → RoomAt b i
 room-of s i lt = record { among = room s i lt; stored = s .store }
 
--- where a bitmap lies after the n bytes from a on, of those up to e, are gone; and where it lay
+-- the place of a bitmap after the n bytes from a on are removed, where the first e bytes are in use; and its place before
 pub data Shift (a n e : ℕ) : Place → Place → Type 0 where
   gone : Shift a n e Nowhere Nowhere
   below : (p w h : ℕ) → p + size w h ≤ a → Shift a n e (At Store p w h) (At Store p w h)
@@ -53,7 +54,7 @@ frame-above (Brush x) p q a n e s i c = gone
 frame-above (Pen x) p q a n e s i c = gone
 frame-above (Font x) p q a n e s i c = gone
 
--- a handle that no slot has is nowhere
+-- a handle that no slot has is located nowhere
 nowhere : (l : List Slot) (h k m p : ℕ) → ((j : ℕ) → k ≤ j → j < k + m → handleAt l j ≡ h → ⊥) → locate (slotsFrom l k m) p h ≡ Nowhere
 unfolding locate slotsFrom
 nowhere l h k zero p out = refl
@@ -73,7 +74,7 @@ module _ (b : GdiState) (s : Sound b) (i : ℕ) (lt : i < b .count) where
   unfolding withoutAt
   slot-above j c d = closed-above _ (b .objects) i 1 (b .count) (omega arith) (table-long s) noSlot j c d ∙ ap (slotAt b) (omega arith)
 
-  -- the places, of what lies behind the object, from it on, and from before it on
+  -- the places: of the slots after the object, from the object on, and from before it on
   abbrev Moved : Place → Place → Type 0
   Moved = Shift (startOf b i) (bytesOf (objectAt b i)) (used b)
 
@@ -122,7 +123,7 @@ module _ (b : GdiState) (s : Sound b) (i : ℕ) (lt : i < b .count) where
           here true r = frame-below (objectAt b c) p _ _ _ (omega (arith, sum-le bytes c i d))
           here false r = r
 
-  -- every other bitmap lies where it lay, or lower by the bytes removed
+  -- every other bitmap keeps its place, or moves down by the bytes removed
   pub moved : (k : ℕ) → eqb (handleAt (b .objects) i) k ≡ false
       → Shift (startOf b i) (bytesOf (objectAt b i)) (used b) (whereIs (withoutAt b i) (Bitmap k)) (whereIs b (Bitmap k))
   moved k ne = by (eqb k stockBitmap)
@@ -140,7 +141,7 @@ module _ (b : GdiState) (s : Sound b) (i : ℕ) (lt : i < b .count) where
       by true = below 0 1 1 (omega arith)
       by false = created
 
-  -- no slot has its handle any more
+  -- no slot has the handle afterwards
   pub handle-gone : (j : ℕ) → j < b .count - 1 → handleAt (withoutAt b i .objects) j ≡ handleAt (b .objects) i → ⊥
   handle-gone j c e = by (decLt j i)
     where

@@ -22,7 +22,7 @@ abbrev bytesIn : Slot → ℕ
 bytesIn t = bytesOf (t .object)
 
 module _ (b : GdiState) (s : Sound b) (i : ℕ) (lt : i < b .count) where
-  -- slot j is what slot k was: itself before the object, the next one from it on
+  -- slot j afterwards is slot k before: k is j before the object, and j + 1 from the object on
   data From (j : ℕ) : Type 0 where
     from : (k : ℕ) → k < b .count → (j < i → k ≡ j) → (i ≤ j → k ≡ suc j) → slotAt (withoutAt b i) j ≡ slotAt b k → From j
 
@@ -49,7 +49,7 @@ module _ (b : GdiState) (s : Sound b) (i : ℕ) (lt : i < b .count) where
       same e = handles-apart (b .objects) x y (b .count) (s .apart) (order (decLt j i) (decLt k i)) yc
           (ap (λ (t : Slot). t .handle) (sym xe) ∙ e ∙ ap (λ (t : Slot). t .handle) ye)
 
-  -- with the bytes of the removed object, the sum is what it was
+  -- the sum with the bytes of the removed object is the sum before
   abbrev before : ℕ → ℕ
   before k = bytesIn (slotAt b k)
 

@@ -1,4 +1,4 @@
--- Numbers whose later slots moved down by one are the record without an object. Assumes nothing.
+-- Numbers whose later slots moved down by one encode the record without an object. Assumes nothing.
 use mathlib.Core.Bool.{true}
 use mathlib.Core.List.{List, append-assoc}
 use mathlib.Core.Path.{_≡_, sym, _∙_, ap}
@@ -23,7 +23,7 @@ use Rattle.memory.specs.Gap.{closedUp}
 use Rattle.memory.proofs.Gap.{closed-length, closed-below, closed-above, closed-freed, closed-past}
 use Rattle.removal.specs.Removal.{withoutAt}
 
--- numbers from p + n on that moved down to p, as far as end
+-- the numbers from p + n on moved down to p, up to end
 module _ (l : List ℕ) (p n end : ℕ) (le : p ≤ end) (room : end + n ≤ length l) where
   abbrev shifted : List ℕ
   shifted = paste l p (drop (p + n) l) (end - p)
@@ -54,7 +54,7 @@ module _ (l : List ℕ) (p n end : ℕ) (le : p ≤ end) (room : end + n ≤ len
   shifted-behind : (k : ℕ) → end ≤ k → at shifted k ≡ at l k
   shifted-behind k h = ap (λ (x : List ℕ). at x k) as-part ∙ with-behind l xs p (end - p) len fits k (omega arith)
 
--- the numbers behind slot i moved down by one slot, as far as those of the slot before the last, and one object less is counted
+-- the numbers after slot i moved down by one slot, up to the slot before the last, and the count is one less
 record Down (l : List ℕ) (i : ℕ) (l′ : List ℕ) : Type 0 where
   pub long : length l′ ≡ length l
   pub count : at l′ countPlace ≡ at l countPlace - 1
@@ -66,7 +66,7 @@ module _ (l l′ : List ℕ) (r : isRecord l ≡ true) (i : ℕ) (lt : i < at l 
   number : (k : ℕ) → k < slotsPlace → (k ≡ countPlace → ⊥) → at l′ k ≡ at l k
   number k h ne = down .before k (omega arith) ne
 
-  -- numbers that l has from another place on
+  -- numbers of l from another place on
   part-from : (q q′ k : ℕ) → q + k ≤ length l → q′ + k ≤ length l → ((j : ℕ) → j < k → at l′ (q + j) ≡ at l (q′ + j)) → part l′ q k ≡ part l q′ k
   part-from q q′ k a b same =
       let long : length (part l′ q k) ≡ k = length-part l′ q k (omega (arith, down .long)) in
@@ -76,7 +76,7 @@ module _ (l l′ : List ℕ) (r : isRecord l ≡ true) (i : ℕ) (lt : i < at l 
   screen : part l′ screenPlace dcSize ≡ part l screenPlace dcSize
   screen = let n : length l ≡ recordSize = parts l r .long in part-from screenPlace screenPlace dcSize (omega arith) (omega arith) (λ j a. down .before (screenPlace + j) (omega arith) (λ e. omega arith))
 
-  -- a slot before the object stays, one behind it moves down
+  -- a slot before the object stays, a slot after it moves down
   slot-below : (j : ℕ) → j < i → part l′ (slotPlace j) slotSize ≡ part l (slotPlace j) slotSize
   slot-below j h =
       let fits : slotPlace j + slotSize ≤ length l = omega (arith, parts l r .few, parts l r .long) in
@@ -145,7 +145,7 @@ module _ (l l′ : List ℕ) (r : isRecord l ≡ true) (i : ℕ) (lt : i < at l 
   down-updated : Updated l (withoutAt (view l) i) l′
   down-updated = record { is-record = good; same = seen; rest = rest }
 
--- as the code moves the numbers and stores the count
+-- the same, as the code moves the numbers and stores the count
 module _ (l : List ℕ) (r : isRecord l ≡ true) (i : ℕ) (lt : i < at l countPlace) where
   abbrev end : ℕ
   end = slotPlace (at l countPlace - 1)

@@ -12,7 +12,7 @@ use Rattle.words.specs.Words.{written, painted, word, byteOf}
 use Rattle.words.proofs.Painted.{painted-none, painted-same, painted-set, word-painted, word-kept, word-lt, low-byte, high-byte}
 use Rattle.words.proofs.Written.{written-at, written-none, written-same, written-set}
 
--- a run of bytes begins, and grows by one at its end
+-- a run of bytes: the empty run, and a run with one more byte
 pub write-first : (f : ℕ → ℕ) (m : List ℕ) (a : ℕ) → m ≡ written (between a (a + 0)) f m
 write-first f m a = written-none (between a (a + 0)) f m (λ k lt. between-no a (a + 0) k (omega arith))
 
@@ -22,7 +22,7 @@ write-next f m₀ a k x room e g =
     (written-set (between a (a + k)) (between a (a + (k + 1))) f m₀ (a + k) room (between-yes a (a + (k + 1)) (a + k) (omega arith) (omega arith))
     (λ j n. between-cong a (a + (k + 1)) j a (a + k) j (omega arith) (omega arith)))
 
--- a run of words begins, and grows by one at its end
+-- a run of words: the empty run, and a run with one more word
 pub paint-first : (v : ℕ → ℕ) (m : List ℕ) (a : ℕ) → m ≡ painted (between a (a + 0)) v m
 paint-first v m a = painted-none (between a (a + 0)) v m (λ i lt. between-no a (a + 0) i (omega arith))
 
@@ -32,7 +32,7 @@ paint-next v m₀ a k x room e g =
     (painted-set (between a (a + k)) (between a (a + (k + 1))) v m₀ (a + k) room (between-yes a (a + (k + 1)) (a + k) (omega arith) (omega arith))
     (λ j n. between-cong a (a + (k + 1)) j a (a + k) j (omega arith) (omega arith)))
 
--- the word at the run's end is still the one before the run
+-- the word after the run is still the old one
 pub next-kept : (v : ℕ → ℕ) (m₀ : List ℕ) {m : List ℕ} (a k : ℕ) → 2 * (a + k) + 1 < length m₀ → m ≡ painted (between a (a + k)) v m₀ → word m (a + k) ≡ word m₀ (a + k)
 next-kept v m₀ a k room e = rw e (word-kept (between a (a + k)) v m₀ (a + k) room (between-no a (a + k) (a + k) (omega arith)))
 
@@ -73,14 +73,14 @@ inverted-painted d n m small =
         let at : k ≡ 2 * (k / 2) + 1 = omega arith in
         rw e (ap (λ (j : ℕ). 255 - getD m j 0) at ∙ high (getD m (2 * (k / 2)) 0) (getD m (2 * (k / 2) + 1) 0) (bytes (2 * (k / 2))) (bytes (2 * (k / 2) + 1)))
 
--- the byte at the run's end is still the one before the run
+-- the byte after the run is still the old one
 pub byte-kept : (f : ℕ → ℕ) (m₀ : List ℕ) {m : List ℕ} (a k : ℕ) → a + k < length m₀ → m ≡ written (between a (a + k)) f m₀ → getD m (a + k) 0 ≡ getD m₀ (a + k) 0
 byte-kept f m₀ a k room e =
     ap (λ (l : List ℕ). getD l (a + k) 0) e
     ∙ written-at (between a (a + k)) f m₀ (a + k) room
     ∙ ap (λ (t : Bool). cond t (f (a + k)) (getD m₀ (a + k) 0)) (between-no a (a + k) (a + k) (λ p q. omega arith))
 
--- bytes that are small in a memory, and were before its run if there is one, were so before
+-- if the memory has bytes below 256 after a run, and the run's bytes were so before, then all were so before
 pub small-before : (f : ℕ → ℕ) (m₀ : List ℕ) {m : List ℕ} (a k : ℕ) → m ≡ written (between a (a + k)) f m₀ → (0 < k → (j : ℕ) → getD m₀ j 0 < 256) → ((j : ℕ) → getD m j 0 < 256) → (j : ℕ) → getD m₀ j 0 < 256
 small-before f m₀ {m} a k e known small = by (ℕ-discrete k 0)
   where
@@ -115,7 +115,7 @@ buffered n s m row₀ small room e k h =
     ∙ ap (λ (t : Bool). cond t (word m (s + (0 + k - 0))) (word row₀ (0 + k))) (between-yes 0 (0 + n) (0 + k) (omega arith) (omega arith))
     ∙ ap (word m) (omega arith))
 
--- Whatever is made of a row that was read into a buffer, and of the word there, is made of the row itself.
+-- A function of a row that was read into a buffer, and of the word at its place, is that function of the row itself.
 pub through-buffer : (f : ℕ → ℕ → ℕ) (d s n : ℕ) (src m row₀ : List ℕ) {row : List ℕ} → ((k : ℕ) → getD src k 0 < 256) → 2 * n ≤ length row₀
     → row ≡ painted (between 0 (0 + n)) (λ i. word src (s + (i - 0))) row₀
     → painted (between d (d + n)) (λ i. f (word row (0 + (i - d))) (word m i)) m ≡ painted (between d (d + n)) (λ i. f (word src (s + (i - d))) (word m i)) m

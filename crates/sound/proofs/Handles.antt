@@ -13,14 +13,14 @@ use Rattle.gdi.specs.Lookup.{handleAt}
 use Rattle.sound.specs.Sound.{absent, distinct}
 
 module _ (l : List Slot) where
-  -- all pairs: one slot more
+  -- all pairs, with one more slot
   pub absent-more : (j h : ℕ) → absent l j h ≡ true → (handleAt l j ≡ h → ⊥) → absent l (j + 1) h ≡ true
   absent-more j h a ne = all-more j (λ i. not (eqb (handleAt l i) h)) a (ap not (ne-eqb _ _ ne))
 
   pub distinct-more : (k : ℕ) → distinct l k ≡ true → absent l k (handleAt l k) ≡ true → distinct l (k + 1) ≡ true
   distinct-more k = all-more k (λ i. absent l i (handleAt l i))
 
-  -- the first n handles differ, and none is above h: as handles that ascend to h
+  -- the first n handles differ and none is above h, as with handles that ascend to h
   pub record AscendTo (n h : ℕ) : Type 0 where
     pub apart : distinct l n ≡ true
     pub below : (j : ℕ) → j < n → handleAt l j ≤ h

@@ -18,7 +18,7 @@ use Rattle.gdi.specs.Lookup.{slotAt, handleAt, objectAt}
 use Rattle.sound.specs.Sound.{limit, objectFits, slotFits, slotsFit, absent, distinct, startOf, used, isSound}
 use Rattle.sound.proofs.Bytes.{fits-below}
 
--- what soundness is made of
+-- the parts of soundness
 pub record Sound (b : GdiState) : Type 0 where
   pub panel-len : b .«panel_len» ≤ limit
   pub store-len : b .«store_len» ≤ limit
@@ -51,7 +51,7 @@ parts b e =
       store = leb-true _ _ (search (and-l, and-r) depth 12);
     }
 
--- the last test, where the other parts are in order
+-- the last test, where the other parts hold
 pub sound-if-room : (b : GdiState) {at : ℕ} → b .«panel_len» ≤ limit → b .«store_len» ≤ limit → b .count ≤ 256
     → side (b .width) ≡ true → side (b .height) ≡ true → size (b .width) (b .height) ≤ b .«panel_len»
     → slotsFit b ≡ true → distinct (b .objects) (b .count) ≡ true → at ≡ used b → leb at (b .«store_len») ≡ isSound b
@@ -76,13 +76,13 @@ fits-at {b} s i lt = fits-below b (s .slots) i lt
 pub room : {b : GdiState} → Sound b → (i : ℕ) → i < b .count → startOf b i + bytesOf (objectAt b i) ≤ used b
 room {b} s i lt = omega (arith, sum-le (λ k. bytesOf (objectAt b k)) i (b .count) lt)
 
--- two objects have two handles
+-- different objects have different handles
 pub handles-apart : (l : List Slot) (j k n : ℕ) → distinct l n ≡ true → j < k → k < n → handleAt l j ≡ handleAt l k → ⊥
 handles-apart l j k n d a c =
     eqb-false (handleAt l j) (handleAt l k)
     (not-true _ (each k (λ i. not (eqb (handleAt l i) (handleAt l k))) (each n (λ i. absent l i (handleAt l i)) d k c) j a))
 
--- what is read past the end fits nowhere, so the table is long enough
+-- an element past the end is unsound, so the table is long enough
 pub table-long : {b : GdiState} → Sound b → b .count ≤ length (b .objects)
 table-long {b} s = by (decLt (length (b .objects)) (b .count))
   where

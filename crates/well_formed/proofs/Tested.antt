@@ -1,4 +1,4 @@
--- How the tests of a record's numbers come out. Assumes nothing.
+-- The results of the tests of a record's numbers. Assumes nothing.
 use mathlib.Core.Bool.{Bool, true, false, _&&_}
 use mathlib.Core.List.{List}
 use mathlib.Core.Path.{_≡_, refl}
@@ -54,7 +54,7 @@ or-zero : (s x : ℕ) → eqb (bitOr s x) 0 ≡ (eqb x 0 && eqb s 0)
 or-zero s zero = rw (or-zero-r s)
 or-zero s (suc x) = rw (ne-eqb (bitOr s (suc x)) 0 (λ e. omega (arith, e, or-add-and s (suc x), and-le-l s (suc x))), ne-eqb (suc x) 0 (λ e. omega (arith, e)))
 
--- the bits s of the numbers from k on, as far as i
+-- s combines the bits of the numbers from k up to i
 module _ (l : List ℕ) (k : ℕ) where
   abbrev zerosTo : ℕ → Bool
   zerosTo i = allBelow (i - k) (λ j. eqb (at l (k + j)) 0)
@@ -72,7 +72,7 @@ module _ (l : List ℕ) (k : ℕ) where
   pub zeros-end : (i s : ℕ) → i ≤ objectSize → objectSize ≤ i → eqb s 0 ≡ zerosTo i → eqb s 0 ≡ zerosFrom l k
   zeros-end i s le ge h = let e : i ≡ objectSize = omega arith in rw e at h
 
--- the last of five tests, taken out
+-- the last of five tests, split off
 and-last : (a b c d e : Bool) → (a && (b && (c && (d && e)))) ≡ ((a && (b && (c && d))) && e)
 and-last false b c d e = refl
 and-last true false c d e = refl
@@ -97,7 +97,7 @@ module _ (l : List ℕ) where
   unfolding isHead
   by-screen a b c = rw (eq-eqb (length l) recordSize a, le-leb (at l stockDirtyPlace) 1 b, le-leb (at l countPlace) 256 c)
 
-  -- numbers are a record if the head is in order and each slot is one
+  -- numbers are a record if the head and each slot are well formed
   pub head-and-slots : isRecord l ≡ (isHead l && areSlots l (at l countPlace))
   unfolding isHead isRecord
   head-and-slots =

@@ -23,7 +23,7 @@ module _ (p : ℕ → Bool) (v : ℕ → ℕ) (m : List ℕ) where
   unfolding painted
   painted-at = written-at (λ k. p (k / 2)) (λ k. byteOf (v (k / 2)) (k % 2)) m
 
-  -- a list is the memory so painted if it is as long and has the bytes
+  -- a list equals the painted memory if it has the same length and the same bytes
   pub is-painted : (l : List ℕ) → length l ≡ length m → ((k : ℕ) → k < length m → getD l k 0 ≡ cond (p (k / 2)) (byteOf (v (k / 2)) (k % 2)) (getD m k 0)) → l ≡ painted p v m
   unfolding painted
   is-painted = is-written (λ k. p (k / 2)) (λ k. byteOf (v (k / 2)) (k % 2)) m
@@ -44,7 +44,7 @@ painted-same p q v u m e h =
 pub painted-cong : (p q : ℕ → Bool) (v : ℕ → ℕ) (m : List ℕ) → ((i : ℕ) → 2 * i < length m → p i ≡ q i) → painted p v m ≡ painted q v m
 painted-cong p q v m e = painted-same p q v v m e (λ i lt t. refl)
 
--- painted again at r, with words that are v's there
+-- painting again at r, where the new words are those of v
 pub painted-again : (p r q : ℕ → Bool) (v u : ℕ → ℕ) (m : List ℕ) → ((i : ℕ) → 2 * i < length m → q i ≡ (r i || p i)) → ((i : ℕ) → 2 * i < length m → r i ≡ true → u i ≡ v i) → painted r u (painted p v m) ≡ painted q v m
 unfolding painted
 painted-again p r q v u m e h =
@@ -64,9 +64,9 @@ odd-half i = omega arith
 odd-rest : (i : ℕ) → (2 * i + 1) % 2 ≡ 1
 odd-rest i = omega arith
 
--- the two stores of one word
+-- one word is stored as two bytes
 module _ (p q : ℕ → Bool) (v : ℕ → ℕ) (m : List ℕ) (i : ℕ) (room : 2 * i + 1 < length m) (here : q i ≡ true) (other : (j : ℕ) → j ≢ i → q j ≡ p j) where
-  -- what is painted between the stores
+  -- the memory between the two stores
   low : ℕ → Bool
   low k = eqb k (2 * i) || p (k / 2)
 
@@ -110,7 +110,7 @@ pub word-kept : (p : ℕ → Bool) (v : ℕ → ℕ) (m : List ℕ) (i : ℕ) �
 unfolding word
 word-kept p v m i room e = simp (painted-at p v m (2 * i) (omega arith), painted-at p v m (2 * i + 1) room, even-half i, odd-half i, e)
 
--- the word of two bytes fits, and they are its low and its high one
+-- the word of two bytes fits 16 bits, and the two are its low and its high byte
 pub word-lt : (m : List ℕ) (i : ℕ) → getD m (2 * i) 0 < 256 → getD m (2 * i + 1) 0 < 256 → word m i < 65536
 unfolding word
 word-lt m i h k = omega arith
@@ -135,7 +135,7 @@ agree-painted p q v u a b i la lb pq new old = by (p i) refl
         simp (painted-at p v a (2 * i) (omega arith), painted-at p v a (2 * i + 1) la, painted-at q u b (2 * i) (omega arith), painted-at q u b (2 * i + 1) lb, even-half i, odd-half i, e, f, g)
     by false e = word-kept p v a i la e ∙ old e ∙ sym (word-kept q u b i lb (sym pq ∙ e))
 
--- the memory's own words leave it as it is
+-- painting with the memory's own words changes nothing
 pub painted-own : (p : ℕ → Bool) (m : List ℕ) → ((k : ℕ) → getD m k 0 < 256) → m ≡ painted p (word m) m
 painted-own p m bytes = is-painted p (word m) m m refl (λ k lt. by k (p (k / 2)) (ℕ-discrete (k % 2) 0))
   where
@@ -152,7 +152,7 @@ painted-own p m bytes = is-painted p (word m) m m refl (λ k lt. by k (p (k / 2)
     by k true d = own k d
     by k false d = refl
 
--- a word stored where it is
+-- storing a word that is already there changes nothing
 pub word-again : (m : List ℕ) (i : ℕ) → 2 * i + 1 < length m → ((k : ℕ) → getD m k 0 < 256) → set (set m (2 * i) (word m i % 256)) (2 * i + 1) (word m i / 256) ≡ m
 word-again m i room bytes =
     ap (λ (l : List ℕ). set (set l (2 * i) (word m i % 256)) (2 * i + 1) (word m i / 256)) (painted-own (λ _. false) m bytes)

@@ -1,4 +1,4 @@
--- Laws of a part of a memory that is lent and comes back. Assumes nothing.
+-- Laws of a part of a memory that is lent. Assumes nothing.
 use mathlib.Core.Bool.{Bool, _&&_, cond}
 use mathlib.Core.List.{List, _++_}
 use mathlib.Core.Path.{_≡_, sym, _∙_, ap}
@@ -31,7 +31,7 @@ word-part m a n j lt =
       high,
     )
 
--- the bytes of the whole, before the part, in it and behind it
+-- the bytes of the memory before the part, in it and after it
 module _ (m xs : List ℕ) (p n : ℕ) (len : length xs ≡ n) (fits : p + n ≤ length m) where
   pub length-with : length (withPart m p n xs) ≡ length m
   length-with = simp (length-append, length-take, length-drop) (omega arith)
@@ -78,7 +78,7 @@ module _ (m xs : List ℕ) (p n : ℕ) (len : length xs ≡ n) (fits : p + n ≤
       by j out (no a) (yes b) = absurd (out (omega arith) b)
       by j out (no a) (no b) = with-behind j (omega arith)
 
--- a part painted is the whole memory painted, at words that lie a further
+-- painting a part is painting the whole memory, at words moved by a
 pub part-painted : (P : ℕ → Bool) (v : ℕ → ℕ) (m : List ℕ) (a n : ℕ) → 2 * a + 2 * n ≤ length m → withPart m (2 * a) (2 * n) (painted P v (part m (2 * a) (2 * n))) ≡ painted (λ i. between a (a + n) i && P (i - a)) (λ i. v (i - a)) m
 part-painted P v m a n fits = is-painted (λ i. between a (a + n) i && P (i - a)) (λ i. v (i - a)) m (withPart m (2 * a) (2 * n) xs) (length-with m xs (2 * a) (2 * n) len fits) (λ k lt. by k lt (decLt k (2 * a)) (decLt k (2 * a + 2 * n)))
   where

@@ -29,7 +29,7 @@ module _ (p : ℕ → Bool) (f : ℕ → ℕ) (m : List ℕ) where
   unfolding written
   written-at k h = getD-tabulate (length m) (λ j. cond (p j) (f j) (getD m j 0)) k h
 
-  -- a list is the memory so written if it is as long and has the bytes
+  -- a list equals the written memory if it has the same length and the same bytes
   pub is-written : (l : List ℕ) → length l ≡ length m → ((k : ℕ) → k < length m → getD l k 0 ≡ cond (p k) (f k) (getD m k 0)) → l ≡ written p f m
   is-written l e h =
       ext-getD 0 l (written p f m) (e ∙ sym length-written)
@@ -47,7 +47,7 @@ written-same p q f g m e h = is-written q g m (written p f m) (length-written p 
     by k lt true u = h k lt u
     by k lt false u = refl
 
--- written again at r, with bytes that are f's there
+-- writing again at r, where the new bytes are those of f
 pub written-again : (p r q : ℕ → Bool) (f g : ℕ → ℕ) (m : List ℕ) → ((k : ℕ) → k < length m → q k ≡ (r k || p k)) → ((k : ℕ) → k < length m → r k ≡ true → g k ≡ f k) → written r g (written p f m) ≡ written q f m
 written-again p r q f g m e h = is-written q f m (written r g (written p f m)) (length-written r g (written p f m) ∙ length-written p f m) at
   where
@@ -62,7 +62,7 @@ written-again p r q f g m e h = is-written q f m (written r g (written p f m)) (
         ∙ by k lt (r k) refl (p k)
         ∙ ap (λ (t : Bool). cond t (f k) (getD m k 0)) (sym (e k lt))
 
--- one byte stored
+-- one byte is stored
 pub written-set : (p q : ℕ → Bool) (f : ℕ → ℕ) (m : List ℕ) (i : ℕ) → i < length m → q i ≡ true → ((j : ℕ) → j ≢ i → q j ≡ p j) → set (written p f m) i (f i) ≡ written q f m
 written-set p q f m i room here other = is-written q f m (set (written p f m) i (f i)) (simp length-set (length-written p f m)) (λ k lt. by k lt (ℕ-discrete k i))
   where

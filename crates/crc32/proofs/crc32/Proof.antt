@@ -1,4 +1,4 @@
--- `crc32::crc32` meets its contract. The invariant: the bytes that are left, from the register `c` on, give the result of all bytes.
+-- `crc32::crc32` meets its contract. The invariant: the remaining bytes, from the register `c` on, give the result of all bytes.
 -- Assumes nothing.
 use mathlib.Core.Path.{_≡_, refl}
 use mathlib.Core.List.{List}
@@ -13,12 +13,12 @@ use Rattle.crc32.proofs.crc32.Statement.{statement}
 use Rattle.crc32.proofs.crc32.Tie as tie
 
 module _ (s : List ℕ) (c i : ℕ) where
-  -- one byte more
+  -- one more byte
   next : i < length s → byteSteps c (drop i s) ≡ byteSteps (byteStep c (getD s i 0)) (drop (i + 1) s)
   unfolding byteSteps
   next h = rw (add-one, drop-cons s i 0)
 
-  -- no byte is left
+  -- no byte remains
   last : length s ≤ i → byteSteps c (drop i s) ≡ c
   unfolding byteSteps
   last h = rw drop-of-length-le

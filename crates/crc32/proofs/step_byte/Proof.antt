@@ -1,4 +1,4 @@
--- `crc32::step_byte` meets its contract. The invariant: the shifts that are left, from the register `r` on, give the result.
+-- `crc32::step_byte` meets its contract. The invariant: the remaining shifts, from the register `r` on, give the result.
 -- Assumes nothing.
 use mathlib.Core.Path.{_≡_, refl}
 use Prim.Native.Nat.{suc, _+_, _-_, _≤_}

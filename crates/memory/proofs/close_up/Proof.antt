@@ -1,4 +1,4 @@
--- `memory::close_up` meets its contract: a gap of nothing is closed, and another one by a move down and zeros. Assumes nothing.
+-- `memory::close_up` meets its contract: an empty gap is closed already, another one by a move down and zeros. Assumes nothing.
 use mathlib.Core.Path.{sym, _∙_}
 use Prim.Native.Nat.{_-_}
 use native.Mathlib.Omega.{arith}

@@ -1,4 +1,4 @@
--- `memory::move_down` meets its contract. The invariant: the bytes from p up to j came from n behind them. Assumes nothing.
+-- `memory::move_down` meets its contract. The invariant: the bytes from p up to j are those n places later. Assumes nothing.
 use mathlib.Core.Path.{_≡_, refl}
 use Prim.Native.Nat.{_+_, _-_, _≤_}
 use native.Mathlib.Omega.{arith}

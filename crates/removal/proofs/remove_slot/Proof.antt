@@ -1,5 +1,5 @@
--- `removal::remove_slot` meets its contract. The invariant: the numbers from slot i on, up to k, came from one slot behind
--- them. Assumes nothing.
+-- `removal::remove_slot` meets its contract. The invariant: the numbers from slot i up to k are those one slot later. Assumes
+-- nothing.
 use mathlib.Core.Path.{_≡_, refl}
 use Prim.Native.Nat.{_+_, _-_, _≤_}
 use native.Mathlib.Omega.{arith}

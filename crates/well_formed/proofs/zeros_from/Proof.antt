@@ -1,4 +1,4 @@
--- `well_formed::zeros_from` meets its contract: the bits as far as i are 0 if the numbers are. Assumes nothing.
+-- `well_formed::zeros_from` meets its contract: the combined bits up to i are 0 exactly if the numbers are. Assumes nothing.
 use mathlib.Core.Path.{_≡_}
 use Prim.Native.Nat.{_≤_, _+_, _-_}
 use native.Mathlib.Omega.{arith}
