@@ -1,4 +1,4 @@
--- A blit from other bytes: its rows one after another, and that they make up its definition. Assumes nothing.
+-- A blit from other bytes: its rows one after another, which together are its definition. Assumes nothing.
 use mathlib.Core.Path.{_≡_, refl, sym, _∙_, ap}
 use mathlib.Core.Bool.{Bool, true, false, _&&_, _||_}
 use mathlib.Core.List.{List}
@@ -24,13 +24,13 @@ use Rattle.blit.specs.Inner.{columns, rowAt, sourceRowAt, sourceFor, hel
 use Rattle.blit.proofs.Pixels.{Empty, is-empty, across, down, held-same, boxed, none-drawn, taken-same, row-in-source}
 use Rattle.blit.proofs.Rows.{next-row, fits, in-row, taken-row, below}
 
--- a test asked of both of two parts
+-- a test of two parts
 share : (a b c c′ : Bool) → (a ≡ true → c ≡ c′) → ((a || b) && c) ≡ ((a && c′) || (b && c))
 share false b c c′ h = refl
 share true b true c′ h = rw (sym (h refl))
 share true b false c′ h = rw (sym (h refl), and-false b)
 
--- a row whose part of the bytes they hold, and one whose part passes their end; the code has found its source row q
+-- a row whose part of the source bytes is there, and one whose part passes their end; q is its source row, as the code computes it
 module _ (box : BlitRect) (W SW table pat y : ℕ) (src m : List ℕ) {q : ℕ} (is : q ≡ box .«src_y0» + (y - box .y0)) where
   abbrev on : ℕ → Bool
   on = between (rowAt box W y) (rowAt box W y + columns box)
@@ -72,7 +72,7 @@ module _ (box : BlitRect) (W SW table pat : ℕ) (src m₀ : List ℕ) (room : R
   end-from y k =
       omega (arith, room .bottom, row-fits W (box .y1) (box .x0) (columns box) y (box .y1) (fits box W (room .across)) k (omega arith))
 
-  -- no row is drawn, and one row more
+  -- no row, and one more row
   pub first-from : m₀ ≡ rowsFrom box W SW table pat (box .y0) src m₀
   unfolding rowsFrom
   first-from = painted-none (Drawn (box .y0)) (ropped table pat Word m₀) m₀ (λ i lt. not-left (held box SW (length src) (i / W)) (no-rows W (box .x0) (box .x1) (box .y0) (box .y0) i (omega arith)))
@@ -113,12 +113,12 @@ module _ (b : Blit) (table pat : ℕ) (src m : List ℕ) (some : 0 < b .width) (
   abbrev Region : ℕ → Bool
   Region = wordsOf (b .width) (λ c r. region b c r && rowHeld b (length src) r)
 
-  -- an empty box leaves the bytes
+  -- an empty box changes nothing
   pub empty-from : {box : BlitRect} → box ≡ clipped b → Empty box → m ≡ blitFrom b table pat src m
   unfolding blitFrom
   empty-from is h = painted-none Region New m (λ i lt. not-left (rowHeld b (length src) (i / b .width)) (none-drawn b some i (omega arith) (is-empty b is h)))
 
-  -- the room for the loop, and what it leaves
+  -- what the loop requires, and the bytes after it
   pub room-from : {box : BlitRect} → box ≡ clipped b → b .«src_w» ≤ 4096 → RoomFrom (length m) (b .width) (b .«src_w») box
   room-from is h = rw is (record {
     across = record {
@@ -141,7 +141,7 @@ module _ (b : Blit) (table pat : ℕ) (src m : List ℕ) (some : 0 < b .width) (
   pub drawn-from : {box : BlitRect} {t : ℕ} {m′ : List ℕ} → box ≡ clipped b → t ≡ table → m′ ≡ rowsFrom box (b .width) (b .«src_w») t pat (box .y1) src m → m′ ≡ blitFrom b table pat src m
   drawn-from is e f = (rw (is, e) at f) ∙ whole-from
 
-  -- bytes as long as the source's sides say hold every row
+  -- source bytes of the length that its sides require hold every row
   pub all-rows-held : length src ≡ 2 * (b .«src_w» * b .«src_h») → blitFrom b table pat src m ≡ painted (wordsOf (b .width) (region b)) New m
   unfolding blitFrom
   all-rows-held full = painted-cong Region (wordsOf (b .width) (region b)) New m (λ i lt. by i (omega arith) (wordsOf (b .width) (region b) i) refl)

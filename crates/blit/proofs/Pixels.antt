@@ -1,4 +1,4 @@
--- The clipped box, pixel by pixel: it holds the blit's pixels, and takes each from its own source pixel. Assumes nothing.
+-- The clipped box, pixel by pixel: it holds the blit's pixels, each drawn from its own source pixel. Assumes nothing.
 use mathlib.Core.Path.{_≡_, refl, sym, _∙_, ap}
 use mathlib.Core.Bool.{Bool, true, false, not, true≢false}
 use Prim.Native.Nat.{ℕ, _+_, _*_, _-_, _/_, _%_, _≤_, _<_}
@@ -19,7 +19,7 @@ use Rattle.blit.specs.declared.Blit.{Blit}
 use Rattle.blit.specs.Blit.{clipped, region, marks, sourceWord, rowHeld}
 use Rattle.blit.specs.Inner.{sourceFor, held}
 
--- whether a box has a pixel, and what the code has found of it
+-- whether a box has a pixel, from the code's tests
 abbrev pub filled : BlitRect → Bool
 filled box = nonempty (box .x0) (box .x1) (box .y0) (box .y1)
 
@@ -61,7 +61,7 @@ module _ (b : Blit) where
     pub marked : filled box ≡ true → true ≡ marks b
     marked h = sym (rw is at h)
 
-  -- the loops ask the same of a row as the definition does
+  -- the loops test a row as the definition does
   pub held-same : (len y : ℕ) → held (clipped b) (b .«src_w») len y ≡ rowHeld b len y
   held-same len y = ap (λ (x : ℕ). leb (2 * x) len) (omega arith)
 
@@ -95,14 +95,14 @@ module _ (b : Blit) where
       in-line : (clipped b .y0 ≤ j / b .width) × (j / b .width < clipped b .y1)
       in-line = bounds (clipped b .y0) (clipped b .y1) (j / b .width) (both (between (clipped b .x0) (clipped b .x1) (j % b .width)) _ (boxed ∙ e) .1)
 
-      -- the loops take the definition's source word for it
+      -- the loops read the source word of the definition
       pub taken-same : sourceFor (clipped b) (b .width) (b .«src_w») j ≡ sourceWord b (j % b .width) (j / b .width)
       taken-same =
           let x = ap positive (across .taken (j % b .width) (in-column .0) (in-column .1)) in
           let y = ap positive (down .taken (j / b .width) (in-line .0) (in-line .1)) in
           rw (← x, ← y) (omega arith)
 
-      -- bytes for the whole source hold each row
+      -- bytes for the whole source hold every row
       pub row-in-source : (len : ℕ) → len ≡ 2 * (b .«src_w» * b .«src_h») → rowHeld b len (j / b .width) ≡ true
       row-in-source len long =
           le-leb _ len

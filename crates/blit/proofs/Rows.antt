@@ -14,7 +14,7 @@ use Rattle.surface.specs.Region.{wordsOf}
 use Rattle.surface.proofs.Rows.{rect, run-row, run-column, row-below, row-above}
 use Rattle.blit.specs.Inner.{columns, rowAt, sourceRowAt, sourceFor, Across}
 
--- One row more, drawn in a memory that is painted at Old: its own words are not painted yet, and what it takes is what Word says.
+-- One more row, drawn in a memory that is painted at Old: the row's own words are not painted yet, and its source words are Word.
 pub next-row : (table pat : ℕ) (Word : ℕ → ℕ) (Read : List ℕ → ℕ → ℕ) (Old Row All : ℕ → Bool) (m₀ : List ℕ) {m m′ : List ℕ}
     → ((i : ℕ) → All i ≡ (Row i || Old i)) → ((i : ℕ) → Row i ≡ true → (2 * i + 1 < length m₀) × (Old i ≡ false))
     → ((i : ℕ) → Row i ≡ true → Read (painted Old (ropped table pat Word m₀) m₀) i ≡ Word i)
@@ -29,7 +29,7 @@ next-row table pat Word Read Old Row All m₀ {m} more own takes e g =
     l₁ : List ℕ
     l₁ = painted Old (ropped table pat Word m₀) m₀
 
--- the words of a row, and the word taken for each
+-- the words of a row, and the source word of each
 module _ (box : BlitRect) (W : ℕ) (A : Across W box) where
   abbrev n : ℕ
   n = columns box
@@ -48,7 +48,7 @@ module _ (box : BlitRect) (W : ℕ) (A : Across W box) where
       let c : i % W - box .x0 ≡ i - rowAt box W y = omega (arith, run-column W (box .x0) n y i (A .some) fits e) in
       ap (λ (q : ℕ). sourceRowAt box SW q + (i % W - box .x0)) (in-row y i e) ∙ ap (λ (k : ℕ). sourceRowAt box SW y + k) c
 
-  -- one row more below, and one above
+  -- one more row below, and one above
   pub below : (y i : ℕ) → box .y0 ≤ y → wordsOf W (rect (box .x0) (box .x1) (box .y0) (y + 1)) i ≡ (run y i || wordsOf W (rect (box .x0) (box .x1) (box .y0) y) i)
   below y i h =
       let e : box .x0 + n ≡ box .x1 = omega arith in

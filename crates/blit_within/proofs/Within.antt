@@ -1,5 +1,5 @@
--- A blit within one memory: its rows from the top and from the bottom, none of which is read after it is drawn, and that they make up
--- its definition. Assumes nothing.
+-- A blit within one memory: its rows from the top and from the bottom, none of which is read after it is drawn; together they are its
+-- definition. Assumes nothing.
 use mathlib.Core.Path.{_≡_, refl, sym, _∙_, ap}
 use mathlib.Core.Bool.{Bool, true, false, _&&_, _||_}
 use mathlib.Core.List.{List}
@@ -39,7 +39,7 @@ placed-more at d n i old all e = by (decLt i at)
     by (yes l) = rw (lt-leb at i l, between-no (at + d) (at + d + n) i (λ p q. omega arith))
     by (no l) = rw (le-leb at i (omega arith), placed-row at d n i (omega arith)) e
 
--- a row, as the code draws it from the source row q that it has found
+-- a row, as the code draws it from the source row q that it computes
 pub row-drawn : (box : BlitRect) (at W src-at SW table pat y : ℕ) (m : List ℕ) {q : ℕ} {m′ : List ℕ} → q ≡ box .«src_y0» + (y - box .y0)
     → m′ ≡ painted (between (at + rowAt box W y) (at + rowAt box W y + columns box)) (ropped table pat (λ i. word m (src-at + (q * SW + box .«src_x0») + (i - (at + rowAt box W y)))) m) m
     → m′ ≡ rowWithin box at W src-at SW table pat y m
@@ -74,7 +74,7 @@ module _ (box : BlitRect) (at W src-at SW table pat : ℕ) (m₀ : List ℕ) (ro
   pub source-within : (y : ℕ) → box .y0 ≤ y → y < box .y1 → {q : ℕ} → q ≡ box .«src_y0» + (y - box .y0) → 2 * (src-at + (q * SW + box .«src_x0») + columns box) ≤ length m₀
   source-within y from to is = rw is (omega (arith, room .bottom-source, end-source y from to))
 
-  -- row y, drawn where rows top .. bottom are already
+  -- row y, drawn after rows top .. bottom
   module _ (y top bottom : ℕ) (from : box .y0 ≤ y) (to : y < box .y1) (low : bottom ≤ box .y1) where
     abbrev d : ℕ
     d = at + rowAt box W y
@@ -85,7 +85,7 @@ module _ (box : BlitRect) (at W src-at SW table pat : ℕ) (m₀ : List ℕ) (ro
     abbrev source-row : ℕ
     source-row = box .«src_y0» + (y - box .y0)
 
-    -- no word of its source is drawn yet, if within one surface no row of it is
+    -- no word of its source is drawn yet, if no source row of the same surface is
     clear : (k : ℕ) → k < columns box → (top ≤ source-row → source-row < bottom → ⊥) → rowsAt box at W top bottom (source + k) ≡ false
     clear k lt off = by (room .apart)
       where
@@ -100,7 +100,7 @@ module _ (box : BlitRect) (at W src-at SW table pat : ℕ) (m₀ : List ℕ) (ro
             (λ p q. let lt : source + k - at < bottom * W = div-lt-iff-lt-mul (room .across .some) .0 q in omega (arith, mul-le-mul-right W low)))
         by (inr (inr e)) = rw (lt-leb at (source + k) (omega (arith, end-source y from to)))
 
-    -- one row more
+    -- one more row
     next-within : (top′ bottom′ : ℕ) {m m′ : List ℕ}
         → ((i : ℕ) → wordsOf W (rect (box .x0) (box .x1) top′ bottom′) i ≡ (between (rowAt box W y) (rowAt box W y + columns box) i || wordsOf W (rect (box .x0) (box .x1) top bottom) i))
         → (top ≤ y → y < bottom → ⊥) → (top ≤ source-row → source-row < bottom → ⊥)
@@ -127,7 +127,7 @@ module _ (box : BlitRect) (at W src-at SW table pat : ℕ) (m₀ : List ℕ) (ro
             word-kept (rowsAt box at W top bottom) (ropped table pat Word m₀) m₀ (source + (i - d)) (omega (arith, in-run i t, source-within y from to refl)) (clear (i - d) (omega (arith, in-run i t)) off)
             ∙ ap (word m₀) (sym (ap (λ (x : ℕ). src-at + x) (taken-row box W (room .across) SW y (i - at) (on-row i t)) ∙ e))
 
-  -- one row more from the top, and one from the bottom
+  -- one more row from the top, and one from the bottom
   pub next-down : (y : ℕ) {m m′ : List ℕ} → box .y0 ≤ box .«src_y0» → box .y0 ≤ y → y < box .y1
       → m ≡ rowsWithin box at W src-at SW table pat (box .y0) y m₀ → m′ ≡ rowWithin box at W src-at SW table pat y m
       → m′ ≡ rowsWithin box at W src-at SW table pat (box .y0) (y + 1) m₀
@@ -153,7 +153,7 @@ module _ (b : Blit) (at src-at table pat : ℕ) (m : List ℕ) (P : Placed (leng
   abbrev Region : ℕ → Bool
   Region i = between at end i && wordsOf (b .width) (region b) (i - at)
 
-  -- an empty box leaves the memory
+  -- an empty box changes nothing
   pub empty-within : {box : BlitRect} → box ≡ clipped b → Empty box → m ≡ blitWithin b at src-at table pat m
   unfolding blitWithin
   empty-within is h = painted-none Region New m (λ i lt. by i (where-is at end i))
@@ -163,7 +163,7 @@ module _ (b : Blit) (at src-at table pat : ℕ) (m : List ℕ) (P : Placed (leng
       by i (before e p) = not-left (wordsOf (b .width) (region b) (i - at)) e
       by i (behind e p) = not-left (wordsOf (b .width) (region b) (i - at)) e
 
-  -- the room for the loops, and what they leave
+  -- what the loops require, and the memory after them
   rows-end : clipped b .y1 * b .width ≤ b .width * b .height
   rows-end = omega (arith, mul-le-mul-right (b .width) (down b .within))
 

@@ -37,7 +37,7 @@ inside-parts (negsuc k) side e = absurd (true≢false (sym e))
 pub drawn-source : (d s w : ℤ) (src-side i : ℕ) → drawnAlong d s w src-side i ≡ true → positive (sourceAt d s i) < src-side
 drawn-source d s w src-side i e = inside-parts (sourceAt d s i) src-side (both (covers d w i) (inside (sourceAt d s i) src-side) e .1) .1
 
--- the cut source holds the coordinates of s .. s + w inside the source
+-- the clipped source holds the coordinates of s .. s + w inside the source
 cut-inside : (s w : ℤ) (side : ℕ) (z : ℤ) → (leZ (pos (clippedAxis s w side .from)) z && ltZ z (pos (clippedAxis s w side .to))) ≡ ((leZ s z && ltZ z (s +ℤ w)) && inside z side)
 cut-inside s w side (negsuc k) = sym (and-false (leZ s (negsuc k) && ltZ (negsuc k) (s +ℤ w)))
 cut-inside s w side (pos k) = by (where-is 0 side k)
@@ -55,7 +55,7 @@ source-parts d s i = omega (arith, difference (pos i) d, sum (pos i -ℤ d) s)
 source-next : (d s : ℤ) (from i : ℕ) → from ≤ i → negative (sourceAt d s from) ≡ 0 → pos (positive (sourceAt d s from) + (i - from)) ≡ sourceAt d s i
 source-next d s from i h e = eq-parts (pos (positive (sourceAt d s from) + (i - from))) (sourceAt d s i) (omega (arith, source-parts d s from, source-parts d s i))
 
--- a test of the destination coordinate i is one of its source coordinate
+-- a test of the destination coordinate i as a test of its source coordinate
 module _ (d s : ℤ) (i : ℕ) where
   abbrev z : ℤ
   z = sourceAt d s i
@@ -83,7 +83,7 @@ module _ (d s : ℤ) (i : ℕ) where
           lt-moved (pos i) (start +ℤ long) z (pos (cut .to)) (omega (arith, start-parts, difference (pos (cut .to)) (pos (cut .from)), sum start long)),
         )
 
-    -- the first source coordinate, as the definition has it
+    -- the first source coordinate, as in the definition
     first-is : pos (cut .from) +ℤ (pos i -ℤ start) ≡ z
     first-is =
         eq-parts (pos (cut .from) +ℤ (pos i -ℤ start)) z
@@ -134,7 +134,7 @@ module _ (d s w : ℤ) (dst-side src-side : ℕ) where
         taken = λ i p q. absurd (omega arith);
       }
 
-  -- a coordinate is drawn exactly if it is in the box and its source coordinate is inside the source, from which it is taken
+  -- a coordinate is drawn exactly if it is in the box and its source coordinate is inside the source; it is drawn from there
   pub blit-clipped : Clipped d s w dst-side src-side (blitAxis d s w dst-side src-side)
   unfolding blitAxis
   blit-clipped = picked (ltb (on .from) (on .to)) refl

@@ -1,4 +1,4 @@
--- From the rectangle that the code holds to the box of the definitions, and from PATCOPY's table to one colour. Assumes nothing.
+-- The code's clipped rectangle is the box of the definitions, and PATCOPY's table gives one colour. Assumes nothing.
 use mathlib.Core.Path.{_≡_, refl, sym, _∙_, ap}
 use mathlib.Core.Bool.{true, false}
 use mathlib.Core.List.{List}
@@ -23,7 +23,7 @@ use Rattle.surface.proofs.Rows.{rect, column-lt, row-lt, no-rows, no-columns}
 use Rattle.fill.specs.Fill.{filledRop, fillMarks, FillRect, FillRectRop}
 use Rattle.fill.specs.Inner.{roppedRect}
 
--- a rectangle with a pixel, and the two without one
+-- a rectangle with a pixel, and rectangles without columns or without rows
 module _ (x0 x1 y0 y1 : ℕ) where
   pub some-pixels : x0 < x1 → y0 < y1 → true ≡ nonempty x0 x1 y0 y1
   some-pixels p q = sym (together (lt-ltb x0 x1 p) (lt-ltb y0 y1 q))

@@ -29,12 +29,12 @@ module _ (W x0 n y0 table pat : ℕ) (m₀ : List ℕ) where
   pub rows-first : m₀ ≡ done y0
   rows-first = painted-none (above y0) v m₀ (λ i h. no-rows W x0 (x0 + n) y0 y0 i (omega arith))
 
-  -- one row more
+  -- one more row
   module _ {m : List ℕ} (r : ℕ) (some : 0 < W) (fits : x0 + n ≤ W) (from : y0 ≤ r) (room : 2 * (r * W + x0 + n) ≤ length m₀) (e : m ≡ done r) where
     abbrev run : ℕ → Bool
     run = between (r * W + x0) (r * W + x0 + n)
 
-    -- the row is as it was
+    -- the row has its old words
     row-kept : (i : ℕ) → run i ≡ true → word m i ≡ word m₀ i
     row-kept i on =
         let h = bounds (r * W + x0) (r * W + x0 + n) i on in

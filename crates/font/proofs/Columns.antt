@@ -1,5 +1,5 @@
--- None of the 760 glyph rows has ink beyond the fifth column: one test that antt computes over the table, carried to each
--- row. Assumes nothing.
+-- None of the 760 glyph rows has ink beyond the fifth column: antt computes one test over the table, and each row
+-- follows. Assumes nothing.
 use mathlib.Core.Bool.{Bool, true, false, _&&_}
 use mathlib.Core.List.{List, [], _∷_}
 use mathlib.Core.Path.{_≡_, refl}

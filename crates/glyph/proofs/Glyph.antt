@@ -32,7 +32,7 @@ in-either true other true row f = rw (sym (f refl))
 in-either true other false row f = rw (sym (f refl)) (sym (and-false other))
 in-either false other ink row f = refl
 
--- one row more
+-- one more row
 module _ (x y : ℤ) (g : List ℕ) (W x0 n y0 : ℕ) where
   pub rows-none : (i : ℕ) → rowsInk x y g W x0 n y0 y0 i ≡ false
   rows-none i = not-left (inkAt (getD g (past y (i / W)) 0) (past x (i % W))) (no-rows W x0 (x0 + n) y0 y0 i (omega arith))

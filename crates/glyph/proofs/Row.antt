@@ -55,7 +55,7 @@ module _ (row k i v : ℕ) (m : List ℕ) where
       by j (yes e) = not-right (between i (i + 1) j) (rw (e, at-word) n)
       by j (no d) = apart j d
 
-  -- the word stored again, or its own
+  -- the new word, or the old one stored again
   pub word-chosen : k < 8 → 2 * i + 1 < length m → ((j : ℕ) → getD m j 0 < 256) → {x : ℕ} → x ≡ cond (inkAt row k) v (word m i) → set (set m (2 * i) (x % 256)) (2 * i + 1) (x / 256) ≡ painted (rowInk row k i 1) (λ _. v) m
   word-chosen h room bytes {x} e = by (inkAt row k) refl
     where
@@ -66,7 +66,7 @@ module _ (row k i v : ℕ) (m : List ℕ) where
       by true f = stored v (e ∙ rw f) ∙ word-inked h room f
       by false f = stored (word m i) (e ∙ rw f) ∙ word-again m i room bytes ∙ word-blank f
 
--- a run begins, and grows by one word
+-- the empty run, and a run with one more word
 pub row-none : (row skip d v : ℕ) (m : List ℕ) → m ≡ painted (rowInk row skip d 0) (λ _. v) m
 row-none row skip d v m =
     painted-none (rowInk row skip d 0) (λ _. v) m (λ j lt. not-left (inkAt row (skip + (j - d))) (between-no d (d + 0) j (λ p q. omega arith)))

@@ -1,4 +1,4 @@
--- From the edges that the code holds to the outline of the definitions. Assumes nothing.
+-- The code's edges give the outline of the definitions. Assumes nothing.
 use mathlib.Core.Path.{_≡_, refl, sym, _∙_}
 use mathlib.Core.Bool.{Bool, true, false, not, true≢false}
 use mathlib.Core.List.{List}

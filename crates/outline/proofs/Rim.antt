@@ -19,7 +19,7 @@ use Rattle.outline.specs.declared.Edges.{Edges}
 use Rattle.outline.specs.Outline.{rim}
 use Rattle.outline.specs.Inner.{edgesOf, sides}
 
--- p .. p + n is its first number, its last one, and what lies between
+-- p .. p + n is its first number, its last one, and the numbers between
 ends : (p n u : ℕ) → 1 ≤ n → (between p (p + 1) u || between (p + n - 1) (p + n) u) ≡ (between p (p + n) u && not (leb (suc p) u && ltb (suc u) (p + n)))
 ends p n u some = by (where-is p (p + 1) u) (where-is (p + n - 1) (p + n) u)
   where
@@ -57,7 +57,7 @@ module _ (x : ℤ) (n side c : ℕ) (some : 1 ≤ n) (lt : c < side) where
       ∙ same-order (suc (c + negative (x +ℤ pos n))) (positive (x +ℤ pos n) + 0) (suc (c + negative x)) (positive x + n) (λ h. omega (arith, sum x (pos n))) (λ h. omega (arith, sum x (pos n))) in
       rw (from, to)
 
-  -- what is left without the ends
+  -- the interval without its ends
   inner-parts : covers (x +ℤ pos 1) (pos n -ℤ pos 2) c ≡ (leb (suc (positive x)) (c + negative x) && ltb (suc (c + negative x)) (positive x + n))
   inner-parts =
       let from : leZ (x +ℤ pos 1) (pos c) ≡ leb (suc (positive x)) (c + negative x)
@@ -70,7 +70,7 @@ module _ (x : ℤ) (n side c : ℕ) (some : 1 ≤ n) (lt : c < side) where
       (λ h. omega (arith, sum x (pos 1), difference (pos n) (pos 2), sum (x +ℤ pos 1) (pos n -ℤ pos 2))) in
       rw (from, to)
 
-  -- the first and the last coordinate are the stretch without its inner part
+  -- the first and the last coordinate are the interval without its inner part
   pub ends-covered : (between (e .from) (e .second) c || between (e .last) (e .to) c) ≡ (covers x (pos n) c && not (covers (x +ℤ pos 1) (pos n -ℤ pos 2) c))
   ends-covered =
       rw (first-covered, last-parts, inner-parts, covers-parts x 1 c, covers-parts x n c)
@@ -96,7 +96,7 @@ share-left : (a b c : Bool) → ((c && a) || (c && b)) ≡ (c && (a || b))
 share-left a b true = refl
 share-left a b false = refl
 
--- two axes: of each all, the first, the last and the inner part
+-- both axes: the whole interval, its first, its last and its inner part
 join : (a f l i b t k j : Bool) → (f || l) ≡ (a && not i) → (t || k) ≡ (b && not j) → ((l && b) || ((f && b) || ((a && k) || (a && t)))) ≡ ((a && b) && not (i && j))
 join a f l i b t k j p q =
     group (l && b) (f && b) ((a && k) || (a && t))

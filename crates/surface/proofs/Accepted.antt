@@ -1,4 +1,4 @@
--- What an operation that is not refused may count on. Assumes nothing.
+-- What holds of the surface of an accepted operation. Assumes nothing.
 use mathlib.Core.Path.{_≡_, refl, sym}
 use mathlib.Core.Bool.{Bool, true, false, _&&_, cond}
 use Prim.Native.Nat.{ℕ, _*_, _≤_, _<_}
@@ -8,7 +8,7 @@ use borrow.Author.Tests.{leb-true, le-leb, eqb-true, eq-eqb, ne-eqb}
 use Rattle.arithmetic.proofs.Test.{both, together}
 use Rattle.surface.specs.Refusal.{side, sourceSide, refusalFor, refusal, refusalFrom}
 
--- A surface in order: sides in their limits, and bytes, of which there are len, as many as they say.
+-- A surface in order: its sides are in their limits, and its len bytes are as many as the sides require.
 pub record InOrder (width height len : ℕ) : Type 0 where
   pub some : 0 < width
   pub wide : width ≤ 4096
@@ -33,7 +33,7 @@ module _ (width height len : ℕ) where
   unfolding refusalFor
   not-refused e k = rw (e, eq-eqb len (2 * (width * height)) k)
 
-  -- the sides are in their limits, and the bytes are as long as they say
+  -- the sides are in their limits, and the bytes have the length that they require
   pub accepted : (sides : Bool) → refusalFor sides width height len ≡ 0 → (sides ≡ true) × (len ≡ 2 * (width * height))
   unfolding refusalFor
   accepted true e = (refl, by (eqb len (2 * (width * height))) refl e)
@@ -43,7 +43,7 @@ module _ (width height len : ℕ) where
       by false f g = absurd (omega arith)
   accepted false e = absurd (omega arith)
 
-  -- an operation that is not refused has a surface in order
+  -- the surface of an accepted operation is in order
   pub sides-in-order : side width ≡ true → side height ≡ true → len ≡ 2 * (width * height) → InOrder width height len
   sides-in-order w h e =
       let p = side-range width w in
@@ -63,7 +63,7 @@ module _ (width height len : ℕ) where
       let own = both (side width) (side height) (q .0) in
       (sides-in-order (own .0) (own .1) (p .1), leb-true src-w 4096 (both (sourceSide src-w) (sourceSide src-h) (q .1) .0))
 
-  -- and the other way round
+  -- an operation on a surface in order is accepted
   module _ (o : InOrder width height len) where
     own-sides : (side width && side height) ≡ true
     own-sides = together (together (le-leb 1 width (o .some)) (le-leb width 4096 (o .wide))) (together (le-leb 1 height (o .some-rows)) (le-leb height 4096 (o .high)))

@@ -1,4 +1,4 @@
--- What an operation has done, from the number that the code has found. Assumes nothing.
+-- `Done`, from the number that the code computed. Assumes nothing.
 use mathlib.Core.Path.{_≡_, sym, _∙_}
 use mathlib.Core.Bool.{Bool, true, false}
 use mathlib.Core.List.{List}
@@ -32,6 +32,6 @@ module _ {number : ℕ} (N : ℕ) (is : number ≡ N) where
     pub writing-refused : (total : ℕ) {drawn before : List ℕ} → Advanced N total drawn before (record { refusal = number; advance = 0 }) before
     writing-refused total = record { answer = rw (not-zero, is); bytes = rw not-zero }
 
--- an operation that is not refused has drawn
+-- an accepted operation has drawn
 pub done-drawn : {N : ℕ} {mark : Bool} {drawn before after : List ℕ} {r : Drawn} → N ≡ 0 → Drew N mark drawn before r after → (r .marked ≡ mark) × (after ≡ drawn)
 done-drawn e d = (rw (d .answer, e), d .bytes ∙ rw e)

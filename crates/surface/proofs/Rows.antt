@@ -14,7 +14,7 @@ use Rattle.surface.specs.Region.{wordsOf}
 abbrev pub rect : (x0 x1 y0 y1 : ℕ) → (c r : ℕ) → Bool
 rect x0 x1 y0 y1 c r = between x0 x1 c && between y0 y1 r
 
--- where a word of the surface is
+-- the column and the row of a word of the surface
 module _ (W H i : ℕ) (some : 0 < W) where
   pub column-lt : i % W < W
   column-lt = mod-lt i some
@@ -77,7 +77,7 @@ module _ (W x0 n r i : ℕ) (some : 0 < W) (fits : x0 + n ≤ W) where
           let e : i / W ≡ r = omega arith in
           rw (run-in-row e, on e .0, on e .1) (or-and (between x0 (x0 + n) (i % W)))
 
-  -- one row more at the end of a rectangle, and at its start
+  -- one more row at the end of a rectangle, and at its start
   pub row-below : (y0 : ℕ) → y0 ≤ r → wordsOf W (rect x0 (x0 + n) y0 (r + 1)) i ≡ (run || wordsOf W (rect x0 (x0 + n) y0 r) i)
   row-below y0 h =
       row-law (between y0 r (i / W)) (between y0 (r + 1) (i / W))

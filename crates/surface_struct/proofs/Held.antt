@@ -1,4 +1,4 @@
--- What a proof has at exit of a `Surface` that was passed by value, and whose bytes went on to a callee for good: what says their last list.
+-- What is known at exit of a `Surface` that was passed by value, and whose bytes were passed on to a callee: their last list.
 --     SurfaceS         the struct's place in a signature, whose first lifetime is the surface's
 --     surface-gave     what is had of it at exit (`Denote/Triple/Walked.antt`'s `Stay`).        surface-goes     the law for it
 -- The law takes `Given`. The rest assumes nothing.

@@ -1,9 +1,10 @@
--- What the walks of all operations share, whatever parameters an operation has beside its surface: the two forms of its contract, and what is passed to a callee and comes back.
+-- What the proofs of all operations share, whatever parameters an operation has beside its surface: the two forms of its contract, and
+-- what is passed to a callee and returned.
 --     Operation        its further parameters, its answer, and the relation that says what it does
 --     on-parts         the contract over a slice and two sides: the covered function's, and that of the function that makes the struct.        on-surface     the contract over the struct
 --     PartsSays c, SurfaceSays c       what the contract c ensures follows from that relation
 --     apart, together          what is owned of a struct is what is owned of its parts
---     parts-give, surface-give     what a caller has of a call.        parts-end, surface-end     how a walk ends
+--     parts-give, surface-give     what a caller knows of a call.        parts-end, surface-end     the end of a proof
 -- The laws take `Given`. The rest assumes nothing.
 use mathlib.Core.Path.{_≡_, refl}
 use Prim.Native.Nat.{ℕ, suc, _<_, _^_}
@@ -44,7 +45,7 @@ use Rattle.surface_struct.proofs.Surface.Laws as T′
 use Rattle.surface_struct.proofs.Param.{Param, slots, rests}
 use Rattle.surface_struct.proofs.Held.{SurfaceS, surface-gave, surface-goes}
 
--- nothing is had at exit of the further parameters
+-- nothing is known at exit of the further parameters
 abbrev pub dropped : {k : ℕ} (ss : List (Slot (suc k))) → Stays ss (all yes ss)
 dropped [] = tt
 dropped (s ∷ ss) = (stay-dropped s yes, dropped ss)
@@ -113,7 +114,7 @@ module _ (O : Operation) where
 pub it-says : {M : Type 1} (𝓤 : URA M) {φ : Type 0} → φ → ent 𝓤 (emp 𝓤) (fact 𝓤 φ)
 it-says 𝓤 {φ} y = factI 𝓤 φ (emp 𝓤) y
 
--- ---- what is had at exit of the parameters
+-- ---- what is known at exit of the parameters
 module _ {M : Type 1} (𝓤 : URA M) (H : Heap 𝓤) (A : Atoms 𝓤) (W : Given 𝓤 H A) where
   dropped-has : {k : ℕ} (κs : Lfts (suc k)) (ss : List (Slot (suc k))) (a : Denots (typesAt ss κs)) (ws : Fins κs ss (all yes ss) a) (vss : Valss (typesAt ss κs)) → ent 𝓤 (emp 𝓤) (sem 𝓤 H A (hasOf κs ss (all yes ss) (dropped ss) a ws vss))
   dropped-has κs [] a ws vss = id⊢ 𝓤 (emp 𝓤)
@@ -130,7 +131,7 @@ module _ {M : Type 1} (𝓤 : URA M) (H : Heap 𝓤) (A : Atoms 𝓤) (W : Given
   pub surface-go : (O : Operation) → AllGo 𝓤 H A W (suc (O .lives)) (surface O .signature .params) (surface O .kept) (surface-stay O)
   surface-go O = (surface-goes 𝓤 H A W (O .lives), dropped-go (O .params))
 
--- the two contracts, as a caller has them
+-- the two contracts, as a caller uses them
 module _ {M : Type 1} (𝓤 : URA M) (H : Heap 𝓤) (A : Atoms 𝓤) (O : Operation) where
   abbrev pub Parts : Contract 𝓤
   Parts = tripleOf 𝓤 H A (parts O .signature) (closing 𝓤 H A (parts O) (on-parts O 𝓤))
@@ -182,12 +183,12 @@ module _ {M : Type 1} (𝓤 : URA M) (H : Heap 𝓤) (A : Atoms 𝓤) (W : Given
       nothing ! $ owned ! u32 (Is u32) (uint-makes 𝓤 H A W w32) m (vint w32 m ∷ []) (refl, m-fits) $ fjoin ! $ owned ! u32 (Is u32) (uint-makes 𝓤 H A W w32) n (vint w32 n ∷ []) (refl, n-fits) $ fjoin ! $ move ! (2 ∷ 0 ∷ []) $ fjoin ! $
       use1 W (‵ (T.the-row α .own h (mach ∷ []))) (own-shut 𝓤 H A W (T.the-type α) (T′.the-laws α) (x, (n, (m, tt)))) $ fjoin ! $ move ! (1 ∷ 0 ∷ []) $ join ! $ nothing ! $ move ! (1 ∷ 0 ∷ []) $ done !
 
-  -- ---- what comes back: an answer r and a last list zs, of which the contract says this
+  -- ---- what is returned: an answer r and a last list zs, with the contract's promise
   pub record Said (r : O .kind .row .Denot) (zs : List ℕ) : Type 0 where
     pub done : O .does κs e n m ys r zs
     pub long : length zs ≡ length ys
 
-  -- and at the machine value w this is had
+  -- the same, at the machine value w
   abbrev pub had : O .kind .row .Denot → List ℕ → Val → Item 𝓤
   had r zs w = raw (toks 𝓤 A (suc (O .lives)) κs qs) ⊛ (‵ (finally u8 γ zs) ⊛ ‵ (O .kind .row .own r (w ∷ [])))
 
@@ -214,7 +215,7 @@ module _ {M : Type 1} (𝓤 : URA M) (H : Heap 𝓤) (A : Atoms 𝓤) (W : Given
       at-once ! $ show ! (λ (p : O .kind .row .Denot × List ℕ). mean 𝓤 H A (given (Said (p .0) (p .1)) (had (p .0) (p .1) w))) (r, ws .0 .0) $ check ! (record { done = d; long = l }) $
       move ! (3 ∷ []) $ split ! $ keep ! (0 ∷ 2 ∷ 1 ∷ []) $ done !))))
 
-  -- ---- how a walk ends
+  -- ---- the end of a proof
   -- what holds in any case is joined to P
   and-so : (P : SProp 𝓤) {Q : SProp 𝓤} → ent 𝓤 (emp 𝓤) Q → ent 𝓤 P (sep 𝓤 P Q)
   and-so P {Q} k = qed W (raw P ∷ []) ∵ use0 W (raw Q) k $ move ! (1 ∷ 0 ∷ []) $ done !
@@ -230,7 +231,7 @@ module _ {M : Type 1} (𝓤 : URA M) (H : Heap 𝓤) (A : Atoms 𝓤) (W : Given
         use0 W (‵ (hasOf κs (slots (O .params)) (all yes (slots (O .params))) (dropped (slots (O .params))) e (rests (O .params) κs e) vs)) (dropped-has 𝓤 H A W κs (slots (O .params)) e (rests (O .params) κs e) vs) $
         nothing ! $ fjoin ! $ nothing ! $ fjoin ! $ move ! (1 ∷ 0 ∷ []) $ fjoin ! $ done !
 
-  -- what is had of the struct's fields, at their machine values
+  -- what is known of the struct's fields, at their machine values
   abbrev held : List ℕ → List Val × (List Val × (List Val × Unit {0})) → Fml
   held zs vss = fsep (finally u8 γ zs) (fsep (u32 .own n (vss .1 .0)) (fsep (u32 .own m (vss .1 .1 .0)) ftrue))
 

@@ -1,6 +1,6 @@
--- The walks of every operation, over a surface that is a struct and over its parts, whatever further parameters the operation has.
---     apart-function g         the MIR of a function that takes the struct apart and calls g.        apart-meets     it meets a contract over the struct that is true of the operation, where g meets the one over the parts
---     together-function g      the MIR of a function that makes the struct of its parts and calls g.        together-meets     it meets such a contract over the parts, where g meets the one over the struct
+-- The proofs of all operations, over the surface struct and over its parts, whatever further parameters an operation has.
+--     apart-function g         the MIR of a function that takes the struct apart and calls g.        apart-meets     it meets a contract over the struct if g meets the contract over the parts
+--     together-function g      the MIR of a function that makes the struct from its parts and calls g.        together-meets     it meets a contract over the parts if g meets the contract over the struct
 -- The theorems take `Given`. The rest assumes nothing.
 use mathlib.Core.Path.{_≡_, refl}
 use Prim.Native.Nat.{ℕ, suc, _<_, _^_}

@@ -13,7 +13,7 @@ module _ (s : tie.Start) where
   to-end : 2 * (rowAt (s .args .r) (s .args .width) (s .args .y) + columns (s .args .r)) ≤ length (s .args .pixels .now)
   to-end = end-from (s .args .r) (s .args .width) (s .args .src-w) (s .args .table) (s .args .pat) (s .args .src .now) (s .args .pixels .now) (s .pre .0) (s .args .y) (s .pre .1 .1)
 
--- the source's words can be counted
+-- the number of the source's words fits a machine word
 module _ (c : tie.After-source-row) where
   abbrev start : tie.Start
   start = c .before .before .before .before .before

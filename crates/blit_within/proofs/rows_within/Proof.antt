@@ -1,4 +1,4 @@
--- `blit_within::rows_within` meets its contract: each order is right for its side. Assumes nothing.
+-- `blit_within::rows_within` meets its contract: each order reads no row after it is drawn. Assumes nothing.
 use native.Mathlib.Omega.{arith}
 use borrow.Author.Needs.{needs}
 use Rattle.blit_within.proofs.rows_within.Statement.{statement}

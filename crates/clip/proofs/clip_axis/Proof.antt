@@ -1,4 +1,4 @@
--- `clip::clip_axis` meets its contract: its sum is exact, and `clamp` does the rest. Assumes nothing.
+-- `clip::clip_axis` meets its contract: its sum is exact, and `clamp` clips. Assumes nothing.
 use borrow.Author.Needs.{needs}
 use mathlib.Core.Path.{_≡_}
 use lib.IntN.{ℤ, _+ℤ_}

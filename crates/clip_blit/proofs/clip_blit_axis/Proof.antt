@@ -115,7 +115,7 @@ module _ (c : tie.After-clamp2) where
 returns : tie.Need-returns
 returns c = let b = c .before in sym (answer b ∙ rw (le-ltb (from b) (to b) (omega (arith, c .if1 .taken))))
 
--- the stretch is not empty
+-- the interval is not empty
 module _ (c : tie.Else1) where
   abbrev C : tie.After-clamp2
   C = c .before

@@ -12,7 +12,7 @@ use Rattle.fill.proofs.Box.{box-fits, box-marked, box-filled}
 use Rattle.fill.proofs.fill_rect_rop.Statement.{statement}
 use Rattle.fill.proofs.fill_rect_rop.Tie as tie
 
--- an accepted fill has a surface in order, and holds the clipped box
+-- the surface of an accepted fill is in order, and the code has the clipped box
 module _ (c : tie.After-clip-rect) where
   abbrev s : tie.Start
   s = c .before .before .before .before

@@ -1,4 +1,4 @@
--- `glyph::cut` meets its contract: its sums are exact, and `clamp` does the rest. Assumes nothing.
+-- `glyph::cut` meets its contract: its sums are exact, and `clamp` clips. Assumes nothing.
 use mathlib.Core.Path.{_≡_, _∙_}
 use native.Mathlib.Omega.{arith}
 use lib.IntN.{ℤ, pos, _+ℤ_, _-ℤ_}

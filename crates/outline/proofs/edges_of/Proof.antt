@@ -1,4 +1,4 @@
--- `outline::edges_of` meets its contract: its sums are exact, and `clamp` does the rest. Assumes nothing.
+-- `outline::edges_of` meets its contract: its sums are exact, and `clamp` clips. Assumes nothing.
 use mathlib.Core.Path.{_≡_}
 use native.Mathlib.Omega.{arith}
 use lib.IntN.{ℤ, pos, _+ℤ_, _-ℤ_}

@@ -13,7 +13,7 @@ use Rattle.outline.proofs.Box.{none-outlined, edges-framed, sides-outli
 use Rattle.outline.proofs.stroke_rect.Statement.{statement}
 use Rattle.outline.proofs.stroke_rect.Tie as tie
 
--- an accepted outline with pixels has a surface in order, and holds the edges
+-- the surface of an accepted outline is in order, and the code has the edges
 module _ (c : tie.After-edges-of2) where
   abbrev s : tie.Start
   s = c .before .before .before .before .before .before .before

@@ -1,4 +1,4 @@
--- `surface_operations::blit_from_bytes_rop` meets its contract: the surface is taken apart, and `blit::blit_from_bytes_rop` is called. Assumes nothing.
+-- `surface_operations::blit_from_bytes_rop` meets its contract: it takes the surface apart and calls `blit::blit_from_bytes_rop`. Assumes nothing.
 use contract.Running.{givenOf, tables, tablesOf}
 use denote.Triple.Spec.{tripleOf}
 use denote.Triple.Table.{entered, cited}

@@ -1,4 +1,4 @@
--- `surface_operations::fill_rect` meets its contract: the surface is taken apart, and `fill::fill_rect` is called. Assumes nothing.
+-- `surface_operations::fill_rect` meets its contract: it takes the surface apart and calls `fill::fill_rect`. Assumes nothing.
 use contract.Running.{givenOf, tables, tablesOf}
 use denote.Triple.Spec.{tripleOf}
 use denote.Triple.Table.{entered, cited}

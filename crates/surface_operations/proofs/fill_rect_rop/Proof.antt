@@ -1,4 +1,4 @@
--- `surface_operations::fill_rect_rop` meets its contract: the surface is taken apart, and `fill::fill_rect_rop` is called. Assumes nothing.
+-- `surface_operations::fill_rect_rop` meets its contract: it takes the surface apart and calls `fill::fill_rect_rop`. Assumes nothing.
 use contract.Running.{givenOf, tables, tablesOf}
 use denote.Triple.Spec.{tripleOf}
 use denote.Triple.Table.{entered, cited}

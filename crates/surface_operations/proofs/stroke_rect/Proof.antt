@@ -1,4 +1,4 @@
--- `surface_operations::stroke_rect` meets its contract: the surface is taken apart, and `outline::stroke_rect` is called. Assumes nothing.
+-- `surface_operations::stroke_rect` meets its contract: it takes the surface apart and calls `outline::stroke_rect`. Assumes nothing.
 use contract.Running.{givenOf, tables, tablesOf}
 use denote.Triple.Spec.{tripleOf}
 use denote.Triple.Table.{entered, cited}

@@ -23,14 +23,14 @@ use Rattle.text.proofs.draw_char.Statement.{statement}
 use Rattle.text.proofs.draw_char.Tie as tie
 
 module _ (c : tie.Start) where
-  -- the number, and what is drawn
+  -- the number, and the bytes after the character is drawn
   abbrev number : ℕ
   number = refusal (c .args .width) (c .args .height) (length (c .args .pixels .now))
 
   abbrev ink : ℕ → Bool
   ink = wordsOf (c .args .width) (charInk (c .args .x) (c .args .y) (c .args .ch))
 
--- printable
+-- a printable character
 module _ (c : tie.Then2) where
   in-range : printable (c .before .before .before .before .before .args .ch) ≡ true
   in-range = sym (c .before .is-printable .ensures) ∙ c .if2 .taken

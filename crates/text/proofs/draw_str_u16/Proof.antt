@@ -23,7 +23,7 @@ module _ (c : tie.Start) where
   abbrev count : ℕ
   count = unitCount (c .args .s .now)
 
-  -- the text's number, and what is drawn of n units
+  -- the text's number, and the bytes after n units are drawn
   abbrev answer : ℕ
   answer = textRefusal number count
 

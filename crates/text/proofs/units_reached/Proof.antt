@@ -1,4 +1,4 @@
--- `text::units_reached` meets its contract: its sums are exact, and `clamp` does the rest. Assumes nothing.
+-- `text::units_reached` meets its contract: its sums are exact, and `clamp` clips. Assumes nothing.
 use mathlib.Core.Path.{_≡_, _∙_, ap}
 use Prim.Native.Nat.{ℕ, _/_}
 use native.Mathlib.Omega.{arith}
