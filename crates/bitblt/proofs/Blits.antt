@@ -28,7 +28,7 @@ use Rattle.transfer.specs.Inner.{PlacesApart, transferred}
 use Rattle.transfer.proofs.PlacesApart.{beside}
 use Rattle.draw.proofs.Targeted.{Targeted, no-dc, no-surface, on, Sourced, no-source-dc, no-source-surface, from-source}
 
--- the two sites that the code has found
+-- the two sites that were found
 module _ {b : GdiState} {s q : SurfaceId} {i j : Site} (v : SiteFound b s i) (w : SiteFound b q j) where
   at-found : i .at ≡ whereIs b s
   at-found = ap (λ (x : Site). x .at) (v .same)
@@ -39,7 +39,7 @@ module _ {b : GdiState} {s q : SurfaceId} {i j : Site} (v : SiteFound b s i) (w 
   pub apart-found : PlacesApart (i .at) (j .at)
   apart-found = rw (at-found, from-found) (beside b s q)
 
--- what is drawn between them, with its mark, is the stroke in the colour k
+-- the blit between them, with its mark, is the stroke in the colour k
 pub blit-made : {l l′ : List ℕ} {s q : SurfaceId} {i j : Site} → SiteFound (view l) s i → SiteFound (view l) q j → (a : Area) (p : Point) (table : ℕ) {c k : ℕ} {due : Bool} {ms ms′ : Memories}
     → c ≡ k → (due ≡ blittedAt (i .at) (j .at) a p) × (ms′ ≡ transferred (i .at) (j .at) a p table c ms) → Updated l (dirtiedIf due s (view l)) l′
     → StrokedOn l (blitStroke (view l) s q a p table k ∷ []) ms l′ ms′

@@ -1,4 +1,4 @@
--- What the operation of a drawing leaves is the drawing's definition. Assumes nothing.
+-- The operation of a drawing gives the bytes and the mark that the drawing's definition says. Assumes nothing.
 use mathlib.Core.Bool.{Bool}
 use mathlib.Core.List.{List}
 use mathlib.Core.Path.{_≡_, refl, _∙_, subst}
@@ -24,11 +24,11 @@ use Rattle.canvas.specs.declared.Drawing.{Drawing}
 use Rattle.canvas.specs.declared.Drawing.the-variants.{Fill, Outline, Text}
 use Rattle.canvas.specs.Inner.{marksOf, drawnOf, UnitsFit}
 
--- one colour is PATCOPY's table on it
+-- painting one colour is painting under PATCOPY's table
 solid : (P : ℕ → Bool) (c : ℕ) (m : List ℕ) → c < 65536 → painted P (λ _. c) m ≡ painted P (ropped 0xF0 c (λ _. 0) m) m
 solid P c m small = pattern-ropped 0xF0 P c (λ _. 0) m refl small
 
--- the mark and the bytes are a drawing's
+-- the mark and the bytes are those of a drawing
 abbrev pub Drawn : Drawing → (units : List ℕ) → (color width height : ℕ) → (m : List ℕ) → Bool → (m′ : List ℕ) → Type 0
 Drawn g us c width height m t m′ = (t ≡ marksOf g width height) × (m′ ≡ drawnOf g us c width m)
 

@@ -1,4 +1,4 @@
--- A surface's part of one of the two memories, as it is lent to an operation and as it comes back. Assumes nothing.
+-- A surface's part of one of the two memories, as it is lent to an operation. Assumes nothing.
 use mathlib.Core.Bool.{Bool, false}
 use mathlib.Core.List.{List}
 use mathlib.Core.Path.{_≡_, _∙_}
@@ -42,7 +42,7 @@ module _ {at : Place} {m : Memory} {p w h : ℕ} (e : at ≡ At m p w h) where
   pub mark-at : {t : Bool} (f : (width height : ℕ) → Bool) → t ≡ f w h → t ≡ marksAt at f
   mark-at f q = q ∙ rw e
 
-  -- the memories after an operation that makes f of a surface's width and bytes
+  -- the memories after an operation that replaces a surface's bytes by f of its width and bytes
   module _ (f : (width : ℕ) → List ℕ → List ℕ) (panel store : List ℕ) {ys : List ℕ} where
     pub back-in-panel : m ≡ Panel → ys ≡ f w (part panel p (p + size w h - p))
         → memories (putMid p (p + size w h - p) panel ys) store ≡ over at (f (widthOf at)) (memories panel store)

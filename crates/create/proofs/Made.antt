@@ -1,4 +1,4 @@
--- From the steps of the create calls to their plans followed. Assumes nothing.
+-- The steps of the create calls follow their plans. Assumes nothing.
 use mathlib.Core.Bool.{true}
 use mathlib.Core.List.{List}
 use mathlib.Core.Path.{_≡_, refl, sym, _∙_, ap}
@@ -47,7 +47,7 @@ module _ (l : List ℕ) (r : isRecord l ≡ true) (o : GdiObject) where
         plan : createOf (view l) o ≡ creation (view l) o
         plan = creation-plan (view l) o fewer (omega (arith, store-len-seen l, ends, bytes, fits))
 
--- `create_compatible_bitmap`: a side too long, and the sides that the code takes
+-- `create_compatible_bitmap`: a side that is too long, and the sides that the code uses
 module _ (l : List ℕ) (w h : ℕ) where
   pub too-wide : isRecord l ≡ true → 4096 < w → (ms : Memories) → Followed (createBitmap (view l) w h) l ms (refused 6) l ms
   too-wide r lt ms = refusal r (wide-plan w h (view l) lt)

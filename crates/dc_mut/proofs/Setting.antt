@@ -1,5 +1,5 @@
--- The walk of a setting on a lent DC, for any field: the borrow is opened, the field is read and written, and the borrow is closed.
---     Kind, Setting        what the walk asks of a setting's type, and of its field
+-- The proof of a setting on a lent DC, for any field: the borrow is opened, the field is read and written, and the borrow is closed.
+--     Kind, Setting        what the proof needs of a setting's type, and of its field
 --     function     the MIR of a function that sets it.        signature, ended     that function's signature
 --     Says c       what the contract c ensures holds of the old value and of the record with the new one
 --     setting-meets        that MIR meets such a contract.        clauses     the one that says just that
@@ -44,7 +44,7 @@ use Rattle.gdi.specs.declared.Dc.{Dc}
 use Rattle.gdi.proofs.Dc as T
 use Rattle.gdi.proofs.Dc.Laws as T′
 
--- a DC's machine value: its fields', and the struct of them
+-- a DC's machine value: those of its fields, and the struct of them
 abbrev pub parts : Dc → Vals
 parts d = ofList (flat (fields T.the-type) (valss (fields T.the-type) (LL.spells (T.the-type .parts) T′.the-laws) (T.the-type .to d)))
 
@@ -104,7 +104,7 @@ module _ (K : Kind) (S : Setting K) where
   abbrev pub Says : {M : Type 1} (𝓤 : URA M) → Clauses 𝓤 ended → Type 1
   Says 𝓤 c = (κs : Lfts 1) (a : Args signature κs) (g : c κs a .ghost) → ent 𝓤 (emp 𝓤) (c κs a .ensures g (S .old (a .0 .now)) (atExit ended κs a (S .new (a .0 .now) (a .1 .0), (K .last (a .1 .0), tt))))
 
--- a fact that holds anyway is added to P
+-- a fact that holds in any case is joined to P
 pub and-so : {M : Type 1} (𝓤 : URA M) (H : Heap 𝓤) (A : Atoms 𝓤) → Given 𝓤 H A → (P : SProp 𝓤) {Q : SProp 𝓤} → ent 𝓤 (emp 𝓤) Q → ent 𝓤 P (sep 𝓤 P Q)
 and-so 𝓤 H A W P {Q} q = qed W (raw P ∷ []) ∵ use0 W (raw Q) q $ move ! (1 ∷ 0 ∷ []) $ done !
 

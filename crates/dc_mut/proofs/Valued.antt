@@ -1,8 +1,8 @@
--- The walk of a setting on a DC by value, for any field: a copy of the DC is lent to the setting and comes back, and is the answer with the old value.
---     Answer       what the walk asks of the struct that is the answer
+-- The proof of a setting on a DC by value, for any field: a copy of the DC is lent to the setting, and is returned with the old value.
+--     Answer       what the proof needs of the struct that is returned
 --     function     the MIR of a function that makes the copy and calls the setting g.        signature, ended     that function's signature
 --     Says c       what the contract c ensures holds of the struct of the record with the new value and the old one
---     valued-meets         that MIR meets such a contract, where g meets the setting's
+--     valued-meets         that MIR meets such a contract if g meets the setting's
 -- `valued-meets` takes `Given`. The rest assumes nothing.
 use mathlib.Core.Path.{_≡_, refl, sym, ap, subst}
 use Prim.Native.Nat.{ℕ}

@@ -49,7 +49,7 @@ module _ (stock : Parts) (gone : ℕ → Parts) (none : Parts) (b : GdiState) (h
     pub leaves : {i : ℕ} → q ≡ At i → deletionOf stock gone none b h ≡ deletionAt gone none b h (At i)
     leaves g = looked ∙ rw g
 
--- a created object that was taken out, with the answer a
+-- a created object that was removed, with the answer a
 pub gone-followed : (stock : Parts) (gone : ℕ → Parts) (none : Parts) (l : List ℕ) (h : ℕ) {i : ℕ} {a : Parts} {l′ store store′ : List ℕ}
     → deletionOf stock gone none (view l) h ≡ deletionAt gone none (view l) h (At i) → a ≡ gone i → a .number ≡ 0 → Updated l (withoutAt (view l) i) l′
     → store′ ≡ closedUp 0 store (startOf (view l) i) (bytesOf (objectAt (view l) i)) (used (view l))

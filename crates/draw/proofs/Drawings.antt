@@ -62,7 +62,7 @@ module _ (b : GdiState) (us : List ℕ) (dc : ℕ) (at : Point) {t : Target} (e 
 pub within-lent : {b : GdiState} {n k : ℕ} {s : SurfaceId} {i : Site} → Ready b n k → SiteFound b s i → Within n k (i .at)
 within-lent q w = rw (q .panel, q .store) (w .within)
 
--- a mark and bytes at the site that was found are the stroke's
+-- the mark and the bytes at the site that was found are those of the stroke
 pub stroke-made : {l l′ : List ℕ} {s : SurfaceId} {i : Site} → SiteFound (view l) s i → (g : Drawing) (us : List ℕ) (c : ℕ) {due : Bool} {ms ms′ : Memories}
     → due ≡ marksAt (i .at) (marksOf g) → Updated l (dirtiedIf due s (view l)) l′ → ms′ ≡ over (i .at) (drawnOf g us c (widthOf (i .at))) ms → StrokedOn l (strokeOf (view l) s g us c ∷ []) ms l′ ms′
 unfolding after paintedBy dirtiedBy paintsOf
@@ -73,11 +73,11 @@ stroke-made {l} {l′} {s} w g us c {ms = ms} m q z =
     }
 
 module _ (s : SurfaceId) (g : Drawing) (us : List ℕ) {l l′ : List ℕ} {ms ms′ : Memories} where
-  -- a stroke in the colour k, which the code has as c
+  -- a stroke in the colour k, which is c in the code
   pub in-colour : {c k : ℕ} → c ≡ k → StrokedOn l (strokeOf (view l) s g us c ∷ []) ms l′ ms′ → StrokedOn l (strokeOf (view l) s g us k ∷ []) ms l′ ms′
   in-colour e x = subst (λ (z : ℕ). StrokedOn l (strokeOf (view l) s g us z ∷ []) ms l′ ms′) e x
 
-  -- one that was made behind others is the one that was due before them
+  -- a stroke after others is the same as computed from the record before them
   pub in-place : {b : GdiState} {c : ℕ} → Still b (view l) → StrokedOn l (strokeOf (view l) s g us c ∷ []) ms l′ ms′ → StrokedOn l (strokeOf b s g us c ∷ []) ms l′ ms′
   in-place {c = c} t x =
       subst (λ (at : Place). StrokedOn l (record { drawing = patterned s (regionOf g us) (tableFor g) c; due = marksAt at (marksOf g) } ∷ []) ms l′ ms′) (t .places s) x

@@ -1,5 +1,5 @@
--- The plan of a call by its DC's target: refused without a DC or a surface, else the plan for the surface. So for a source.
--- Assumes nothing.
+-- The plan of a call by its DC's target: refused without a DC or a surface, else the plan for the surface; and the same for
+-- a source. Assumes nothing.
 use mathlib.Core.Path.{_≡_, sym, _∙_, ap}
 use Prim.Native.Nat.{ℕ}
 use Rattle.gdi.specs.declared.GdiState.{GdiState}
@@ -12,7 +12,7 @@ use Rattle.place.specs.Place.{targetOf}
 use Rattle.plan.specs.Plan.{Plan, refuse}
 use Rattle.plan.specs.Drawing.{onTarget, onSource}
 
--- p is the plan of a call on what the DC paints: f makes it of the surface and the DC's record
+-- p is the plan of a call on the DC's surface: f gives it from the surface and the DC's record
 pub record Targeted (p : Plan) (b : GdiState) (dc : ℕ) (f : SurfaceId → Dc → Plan) : Type 0 where
   pub plan : p ≡ onTarget b (targetOf b dc) f
 
@@ -29,7 +29,7 @@ module _ {p : Plan} {b : GdiState} {dc : ℕ} {f : SurfaceId → Dc → Plan} (i
   pub on : {s : SurfaceId} {o : Site} {d : Dc} → t ≡ On s o d → p ≡ f s d
   on {s} {o} {d} g = target-is (On s o d) g
 
--- p is the plan of a call from what the DC src paints: f makes it of the surface
+-- p is the plan of a call with the surface of the DC src as its source: f gives it from that surface
 pub record Sourced (p : Plan) (b : GdiState) (src : ℕ) (f : SurfaceId → Plan) : Type 0 where
   pub plan : p ≡ onSource b (targetOf b src) f
 

@@ -1,4 +1,4 @@
--- From the steps of a host's call to its plan followed. Assumes nothing.
+-- The steps of a host's call follow its plan. Assumes nothing.
 use mathlib.Core.List.{List}
 use mathlib.Core.Path.{_≡_, refl, sym, _∙_, subst}
 use Prim.Native.Nat.{ℕ}
@@ -17,7 +17,7 @@ use Rattle.host_reply.specs.Reply.{Replied}
 use Rattle.host.specs.Host.{planRead, hostPlan, HostPerformed}
 
 module _ (hc : HostCall) (us l : List ℕ) (ms : Memories) {r : Reply} {l′ : List ℕ} {ms′ : Memories} where
-  -- by the call that the numbers are
+  -- by the call that the numbers encode
   by-reading : {q : ParsedCall} {a : Parts} → callOf hc ≡ q → Followed (planRead q us l ms) l ms a l′ ms′ → Replied a r → HostPerformed hc us l ms r l′ ms′
   by-reading {q} {a} e f p =
       let g : Followed (hostPlan hc us l ms) l ms a l′ ms′ = subst (λ (y : ParsedCall). Followed (planRead y us l ms) l ms a l′ ms′) (sym e) f in

@@ -1,4 +1,4 @@
--- The magnitude of a signed number, as the code finds it in 64 bits. Assumes nothing.
+-- The magnitude of a signed number, as the code computes it in 64 bits. Assumes nothing.
 use mathlib.Core.Bool.{true, false}
 use mathlib.Core.List.{[], _∷_}
 use mathlib.Core.Path.{_≡_, refl}

@@ -19,7 +19,7 @@ one-more l c h = record { len = refl; text = rw (add-one, take-suc-set) }
 pub nothing : (l : Line) → Added l 0 [] l
 nothing l = record { len = sym (add-zero (l .len)); text = sym (append-nil _) }
 
--- a text's next character, behind those before it
+-- a text's next character, after those before it
 pub next : {l m r : Line} (s : List ℕ) (k : ℕ) → k < length s → Added l k (take k s) m → Added m 1 (getD s k 0 ∷ []) r → Added l (k + 1) (take (k + 1) s) r
 next s k h a b = record { len = omega arith; text = rw (add-one, take-suc s k 0, b .text, a .text, append-assoc) }
 
@@ -35,7 +35,7 @@ at-most b n least v k p m h f = by (decLt n k)
     by (yes more) = omega (arith, f .2 (omega arith), pow-le-pow-right {n = b} p {i = n} {j = k - 1} (omega arith))
     by (no same) = omega arith
 
--- and exactly n if n are asked for
+-- and exactly n if n digits are printed
 pub as-wide : (n v k : ℕ) → 1 ≤ n → n ≤ 16 → v < 16 ^ n → Fewest 16 (min (max n 1) 16) v k → k ≡ n
 as-wide n v k o m h f = omega (arith, f .0, at-most 16 n (min (max n 1) 16) v k (omega arith) (omega arith) h f)
 

@@ -1,4 +1,4 @@
--- A fresh record written into numbers is the record that they are. Assumes nothing.
+-- Numbers into which a fresh record was written encode that record. Assumes nothing.
 use mathlib.Core.Bool.{Bool, true, cond}
 use mathlib.Core.List.{List, [], _∷_}
 use mathlib.Core.Path.{_≡_, refl, sym, _∙_, ap}
@@ -20,13 +20,13 @@ use Rattle.numbers.proofs.View.{length-table, table-slot}
 use Rattle.plan.specs.Vacant.{Vacant}
 use Rattle.plan.proofs.Vacant.{stays-vacant}
 
--- what lies behind a part that was put is kept
+-- the numbers after a part that was written are kept
 with-tail : (m xs : List ℕ) (p n : ℕ) → length xs ≡ n → p + n ≤ length m → (k : ℕ) → p + n ≤ k → drop k (withPart m p n xs) ≡ drop k m
 with-tail m xs p n len fits k le =
     ext-getD 0 (drop k (withPart m p n xs)) (drop k m) (simp (length-drop) (ap (λ (j : ℕ). j - k) (length-with m xs p n len fits)))
     (λ i lt. getD-drop k (withPart m p n xs) i 0 ∙ with-behind m xs p n len fits (k + i) (omega arith) ∙ sym (getD-drop k m i 0))
 
--- the numbers in front of the screen DC
+-- the numbers before the screen DC
 abbrev head : (panel-len store-len width height : ℕ) → List ℕ
 head n k w h = n ∷ k ∷ w ∷ h ∷ 0 ∷ 0 ∷ 0xDEAD_1000 ∷ 0 ∷ 0 ∷ []
 
@@ -99,7 +99,7 @@ module _ (n k w h : ℕ) (l ys : List ℕ) (long : length l ≡ recordSize) (len
   put : Updated l (fresh n k w h) whole
   put = record { is-record = good; same = seen; rest = kept }
 
--- the same, with the parts as the code lends them and has them back
+-- the same, with the parts as the code lends them
 pub fresh-put : {n k w h : ℕ} (l xs ys : List ℕ) {d : Dc} → length l ≡ recordSize → xs ≡ head n k w h → d ≡ screenDc → length ys ≡ length (part (lentBack l 0 headSize xs) screenPlace dcSize) → DcCoded d ys
     → Updated l (fresh n k w h) (lentBack (lentBack l 0 headSize xs) screenPlace dcSize ys)
 fresh-put {n} {k} {w} {h} l xs ys long device is len screen =

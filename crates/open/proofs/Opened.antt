@@ -1,4 +1,5 @@
--- Laws of open: its refusal's cases, from its steps to what it answers, and that an accepted one gives a sound record. Assumes nothing.
+-- Laws of open: the cases of its refusal, that its steps meet its contract, and that an accepted open gives a sound record. Assumes
+-- nothing.
 use mathlib.Core.Bool.{Bool, true, false, cond, _&&_}
 use mathlib.Core.List.{List}
 use mathlib.Core.Path.{_≡_, refl, sym, _∙_}
@@ -22,7 +23,7 @@ use Rattle.ready.proofs.Ready.{ready-accepts}
 use Rattle.paint.specs.Memories.{Memories, memories}
 use Rattle.plan.specs.Open.{openRefusal, openNumber, Opened}
 
--- the refusal's cases, n and k being the lengths of panel memory and store
+-- the cases of the refusal; n and k are the lengths of the panel memory and the store
 module _ (w h n k : ℕ) where
   pub bad-width : side w ≡ false → 6 ≡ openRefusal w h n k
   unfolding openRefusal
@@ -57,7 +58,7 @@ module _ (w h n k : ℕ) where
             unfolding openRefusal
             no-refusal le = rw (wide, high, le-leb _ _ panel, le-leb _ _ store, le-leb _ _ fits, le-leb _ _ le)
 
--- what an open that is not refused may count on
+-- what holds of an accepted open
 pub record Accepted (w h n k : ℕ) : Type 0 where
   pub width : side w ≡ true
   pub height : side h ≡ true
@@ -84,7 +85,7 @@ accepted w h n k no₀ e z =
     by true ea true eb true ec true ed true ep false eq i = absurd (omega arith)
 
 module _ {w h n k : ℕ} (a : Accepted w h n k) where
-  -- the panel's pixels, few enough to be counted
+  -- the number of the panel's pixels fits a machine word
   pub few-pixels : w * h ≤ 16777216
   few-pixels = area w h (a .width) (a .height)
 
@@ -112,7 +113,7 @@ pub refused-unsound : isSound (fresh 0 0 0 0) ≡ false
 unfolding isSound
 refused-unsound = refl
 
--- from the steps to the answer: numbers that no record fits, a refusal, and an accepted open
+-- the steps meet the contract: too few or too many numbers, a refusal, and an accepted open
 pub misfit : (w h : ℕ) (l : List ℕ) (ms : Memories) → (length l ≡ recordSize → ⊥) → Opened w h l ms 9 l ms
 misfit w h l ms ne =
     record { answer = rw (ne-eqb _ _ ne); numbers = λ e. absurd (ne e); kept = λ x. refl; panel = refl; store = refl }

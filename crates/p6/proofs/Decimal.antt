@@ -67,7 +67,7 @@ few-digits (suc k) n h = by (few-digits k (n / 10) (omega (arith, pow-suc 10 (su
     by f (yes a) = omega (arith, length-one n a)
     by f (no a) = omega (arith, length-more n (omega arith))
 
--- a digit that is stored, alone or behind the digits before it
+-- a digit that is stored, alone or after the digits before it
 pub put-digit : (m : List ℕ) (at n : ℕ) → n < 10 → at + length (decimal n) ≤ length m → set m at (48 + n % 10) ≡ put m at (decimal n)
 put-digit m at n h fits = rw (decimal-one n h) (stored ((48 + n % 10) ∷ []) m at (omega (arith, length-one n h)))
 
@@ -84,7 +84,7 @@ length-header w h = simp length-append (omega arith)
 pub header-few : (w h : ℕ) → w < 10 ^ 10 → h < 10 ^ 10 → length (header w h) ≤ 29
 header-few w h a b = omega (arith, length-header w h, few-digits 9 w a, few-digits 9 h b)
 
--- its five pieces, one behind the other
+-- its five pieces, one after the other
 pub put-pieces : (m : List ℕ) (w h : ℕ) {l₁ l₂ l₃ l₄ l₅ : List ℕ} (a₁ a₂ a₃ a₄ : ℕ) → length (header w h) ≤ length m
     → l₁ ≡ put m 0 (80 ∷ 54 ∷ 10 ∷ []) → a₁ ≡ 0 + 3
     → l₂ ≡ put l₁ a₁ (decimal w) → a₂ ≡ a₁ + length (decimal w)

@@ -49,12 +49,12 @@ module _ (K : ℕ → List ℕ → Picture) where
           let s : 10 ≤ n = ltb-false n 10 e in
           rw append-assoc (f (omega arith) ∙ one-digit (n / 10) (n % 10) t (omega arith) ∙ ap (λ (x : ℕ). moreDigits K x t) (omega arith))
 
-  -- a number is read up to the byte behind it that is no digit
+  -- a number is read up to the first byte that is no digit
   read-number : (n b : ℕ) (t : List ℕ) → isDigit b ≡ false → number K (decimal n ++ (b ∷ t)) ≡ K n (b ∷ t)
   unfolding moreDigits
   read-number n b t e = rw (first-digit n n (b ∷ t), read-digits n n (b ∷ t) (omega arith), e)
 
--- white space is read up to the digit behind it
+-- white space is read up to the first digit
 read-space : (K : List ℕ → Picture) (b : ℕ) (s : List ℕ) → isSpace b ≡ true → first isDigit s ≡ true → whitespace K (b ∷ s) ≡ K s
 unfolding pastSpace
 read-space K b [] e f = let z : _≡_ {A = ℕ} 0 1 = cc in absurd (omega arith)
@@ -64,7 +64,7 @@ p6-parts : (w h : ℕ) (x : List ℕ) → p6 w h x ≡ 80 ∷ 54 ∷ 10 ∷ (dec
 unfolding header
 p6-parts w h x = simp append-assoc
 
--- maxval, and what is behind it
+-- maxval, and the bytes after it
 read-rest : (w h : ℕ) (x : List ℕ) → length x ≡ 3 * (w * h) → whitespace (number λ maxval. oneSpace (raster w h maxval)) (10 ∷ 50 ∷ 53 ∷ 53 ∷ 10 ∷ x) ≡ picture w h 255 x
 unfolding pastSpace moreDigits
 read-rest w h x e = rw (eq-eqb (length x) (3 * (w * h)) e)

@@ -1,4 +1,4 @@
--- Laws of bytes that are put into a memory, one piece behind the other. Assumes nothing.
+-- Laws of bytes that are written into a memory, piece after piece. Assumes nothing.
 use mathlib.Core.List.{List, _++_, append-assoc, append-nil}
 use mathlib.Core.Path.{_≡_, sym, _∙_, ap}
 use Prim.Native.Nat.{ℕ, zero, suc, _+_, _*_, _≤_}
@@ -17,7 +17,7 @@ put-all m xs e = rw (drop-of-length-le m {i = 0 + length xs} (omega arith)) (app
 pub length-put : (m : List ℕ) (p : ℕ) (xs : List ℕ) → p + length xs ≤ length m → length (put m p xs) ≡ length m
 length-put m p xs h = simp (length-append, length-take, length-drop) (omega arith)
 
--- a piece behind another
+-- a piece after another
 pub put-put : (m : List ℕ) (p : ℕ) (xs ys : List ℕ) → p + length xs + length ys ≤ length m → put (put m p xs) (p + length xs) ys ≡ put m p (xs ++ ys)
 put-put m p xs ys h =
     ap (λ (l : List ℕ). l ++ (ys ++ drop (p + length xs + length ys) (put m p xs))) (ap (take (p + length xs)) split ∙ take-at (take p m ++ xs) rest (p + length xs) front)
@@ -57,7 +57,7 @@ put-copy m p xs = rw (take-length xs) (append-assoc (take p m) xs (drop (p + len
 pub stored : (xs m : List ℕ) (p : ℕ) → p + length xs ≤ length m → sets m p xs ≡ put m p xs
 stored xs m p h = sets-eq xs m p h ∙ append-assoc (take p m) xs (drop (p + length xs) m)
 
--- bytes stored behind a piece
+-- bytes stored after a piece
 pub stored-behind : (xs ys m : List ℕ) (p : ℕ) → p + length xs + length ys ≤ length m → sets (put m p xs) (p + length xs) ys ≡ put m p (xs ++ ys)
 stored-behind xs ys m p h = stored ys (put m p xs) (p + length xs) (omega (arith, length-put m p xs (omega arith))) ∙ put-put m p xs ys h
 

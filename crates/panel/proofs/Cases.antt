@@ -34,7 +34,7 @@ use Rattle.plan.specs.Panel.{panelFill, resized, noEffect, resize}
 use Rattle.plan.specs.Followed.{Followed}
 use Rattle.plan.proofs.Followed.{acceptance}
 
--- the pixels of sides in their limit
+-- the number of pixels of sides in their limits
 pub area : {w h : ℕ} → w ≤ 4096 → h ≤ 4096 → w * h ≤ 16777216
 area wide high = mul-le-mul wide high
 
@@ -66,7 +66,7 @@ filled l panel c sound len small marked bytes store =
     let fits : 2 * (view l .width * view l .height) ≤ length panel = omega (arith, panel-fits (view l) sound len) in
     acceptance refl refl marked (ap (λ (p : List ℕ). memories p store) (bytes ∙ whole-panel panel (view l .width * view l .height) c fits small))
 
--- the plan of a resize: nothing to do, a side too long, memory too short, and the new size
+-- the plan of a resize: nothing to do, a side that is too long, a memory that is too short, and the new size
 module _ (b : GdiState) (w h : ℕ) {t : Bool} (e : t ≡ noEffect b w h) where
   pub same-size : t ≡ true → resize b w h ≡ recordOnly b done
   unfolding resize

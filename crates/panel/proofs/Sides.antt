@@ -1,4 +1,4 @@
--- The panel's sides written into the numbers, and then a mark. Assumes nothing.
+-- The panel's sides are written into the numbers, and then a dirty mark. Assumes nothing.
 use mathlib.Core.Bool.{Bool, true, _&&_, _||_}
 use mathlib.Core.List.{List}
 use mathlib.Core.Path.{_≡_, refl, _∙_, subst}
@@ -51,11 +51,11 @@ module _ (l : List ℕ) (r : isRecord l ≡ true) (w h : ℕ) where
   unfolding view
   sides-set = head-updated l sized r kept (omega arith) seen refl (omega (arith, other stockDirtyPlace (λ a b. omega arith), parts l r .flag))
 
--- sides, and then a mark
+-- the sides, and then a dirty mark
 pub sized-marked : {l l₁ l′ : List ℕ} (w h : ℕ) → Updated l (withSides (view l) w h) l₁ → Updated l₁ (dirtied (view l₁) Panel) l′ → Updated l (dirtied (withSides (view l) w h) Panel) l′
 sized-marked {l} {l₁} {l′} w h s t = updated-twice (dirtied-count (withSides (view l) w h) Panel) s (subst (λ (b : GdiState). Updated l₁ (dirtied b Panel) l′) (s .same) t)
 
--- the panel of a sound record, by its numbers
+-- the panel of a sound record, from its numbers
 module _ (l : List ℕ) (sound : isSound (view l) ≡ true) where
   pub area-seen : at l widthPlace * at l heightPlace ≤ 16777216
   unfolding view
@@ -69,7 +69,7 @@ pub filled-seen : (l panel : List ℕ) (c : ℕ) {panel′ : List ℕ} → panel
 unfolding view
 filled-seen l panel c e = e
 
--- a resize without effect, by the numbers
+-- a resize without effect, from the numbers
 pub effect-seen : (l : List ℕ) (w h : ℕ) {t : Bool} → t ≡ ((eqb w 0 || eqb h 0) || (eqb w (at l widthPlace) && eqb h (at l heightPlace))) → t ≡ noEffect (view l) w h
 unfolding view
 effect-seen l w h e = e

@@ -1,4 +1,4 @@
--- From the common refusals, and from what a called function ensures, to a call performed. Assumes nothing.
+-- A call is performed: by the common refusals, or by what the function of the call ensures. Assumes nothing.
 use mathlib.Core.Bool.{Bool, true, false, cond}
 use mathlib.Core.List.{List}
 use mathlib.Core.Path.{_≡_, _∙_}

@@ -26,7 +26,7 @@ use Rattle.place.proofs.Targets.{target-placed}
 use Rattle.paint.specs.Memories.{memories, memoryOf, pixelsAt}
 use Rattle.pixels.specs.Pixels.{placeOn, placeOf, pixelsOf, pointerAt, Found}
 
--- where a DC's pixels lie, by the number of the refusal and the DC's target
+-- where a DC's pixels lie, from the number of the refusal and the DC's target
 module _ (l : List ℕ) (n k dc : ℕ) {no₀ : ℕ} (e : no₀ ≡ commonRefusalOn l n k) where
   pub refused : (no₀ ≡ 0 → ⊥) → Found l n k dc Nowhere
   unfolding placeOf
@@ -63,7 +63,7 @@ module _ {l : List ℕ} {n k dc : ℕ} {at : Place} (f : Found l n k dc at) {m :
   pub store-fits : m ≡ Store → p + size w h ≤ k
   store-fits g = subst (λ (v : Memory). p + size w h ≤ lengthOf n k v) g (inside .fits)
 
--- these bytes are the DC's pixels, and this is where they lie, by the two memories as they are lent
+-- these bytes are the DC's pixels, and this is where they lie in the two lent memories
 abbrev Lies : (panel store : RefT (List ℕ)) (l : List ℕ) (dc : ℕ) → List ℕ → ℕ × ℕ → Type 0
 Lies panel store l dc bytes pointer =
     (bytes ≡ pixelsOf l (memories (now panel) (now store)) dc)

@@ -53,7 +53,7 @@ module _ (s : List ℕ) where
   unfolding isPicture
   by-length e f g i = rw (← e, ← g, f, i)
 
-  -- what is written
+  -- the bytes that are written
   pub a-picture : isPicture s ≡ true → pictureOf s ≡ ppmOf (be16 s 0) (be16 s 2) (drop 4 s)
   unfolding pictureOf
   a-picture e = rw e
@@ -69,7 +69,7 @@ room w h a b = omega (arith, length-header w h, few-digits 2 w (omega arith), fe
 pub served-most : (n : ℕ) → served n ≡ true → n ≤ 144
 served-most n e = leb-true n 144 (both (leb 1 n) (leb n 144) e .1)
 
--- the pixels are all that is behind the sides
+-- the pixels are all bytes after the sides
 pub all-behind : (s : List ℕ) → take (length s - 4) (drop 4 s) ≡ drop 4 s
 all-behind s = take-all (length s - 4) (drop 4 s) (omega (arith, length-drop 4 s))
 

@@ -12,7 +12,7 @@ pub column : (w h : ℕ) → 0 < w * h → 0 < w
 column zero h p = rw zero-mul at p
 column (suc w) h p = omega arith
 
--- sides as they were read and tested, of one surface and of two
+-- sides that were read and tested, of one surface and of two
 pub served : {s : Sides} {n : ℕ} → Limited s → n ≡ s .w * s .h → 0 < n → n ≤ 76800 → Served s
 served {s} r e p q = record { some = column (s .w) (s .h) (omega arith); sides = r; room = omega arith }
 

@@ -14,7 +14,7 @@ use Rattle.p6.proofs.P6.{read-back}
 use Rattle.p6.proofs.Put.{stored, stored-behind, length-joined}
 use Rattle.samples.specs.Samples.{rgb, rgba, samplesOf, rgbaOf, ppmOf}
 
--- three bytes stored, and four
+-- three bytes are stored, and four
 put-three : (m : List ℕ) (p x y z : ℕ) → p + 2 < length m → set (set (set m p x) (p + 1) y) (p + 2) z ≡ put m p (x ∷ y ∷ z ∷ [])
 put-three m p x y z h =
     let one : p + 1 ≡ suc p = omega arith in
@@ -56,6 +56,6 @@ length-samples m n = length-joined (λ i. rgb (word m i)) 3 (λ _. refl) n
 pub length-ppm : (w h : ℕ) (m : List ℕ) → length (ppmOf w h m) ≡ ppmLength w h
 length-ppm w h m = omega (arith, length-append (header w h) (samplesOf m (w * h)), length-samples m (w * h))
 
--- the reader gives the picture back
+-- the reader reads the picture back
 pub ppm-read : (w h : ℕ) (m : List ℕ) → read (ppmOf w h m) ≡ picture w h 255 (samplesOf m (w * h))
 ppm-read w h m = read-back w h (samplesOf m (w * h)) (length-samples m (w * h))

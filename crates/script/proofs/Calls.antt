@@ -26,12 +26,12 @@ either-bad false = refl
 pub coordinate : (z : ℤ) {y : ℤ} → mag z < 2 ^ 31 → z ≡ y → held32 z ≡ y
 coordinate z small e = stored32 z (record { sfits = small }) ∙ e
 
--- a text's arguments end behind 16 bytes, whatever its number of units
+-- a text has 16 bytes of arguments, whatever its number of units
 pub longer : (s : List ℕ) (p : ℕ) {n : ℕ} → n ≤ 16 → length s < p + n → leb (p + (16 + 2 * be32 s (p + 12))) (length s) ≡ false
 longer s p le h = lt-leb (p + (16 + 2 * be32 s (p + 12))) (length s) (omega arith)
 
 module _ (s : List ℕ) (p k : ℕ) where
-  -- fewer than n bytes are left for arguments of m bytes
+  -- fewer than n bytes remain for arguments of m bytes
   short : (m : ℕ) {n : ℕ} → n ≤ m → length s < p + n → leb (p + m) (length s) ≡ false
   short m le h = lt-leb (p + m) (length s) (omega arith)
 
@@ -79,7 +79,7 @@ module _ (s : List ℕ) (p k : ℕ) where
 record Ends (s : List ℕ) (at : ℕ) (r : CallRead) : Type 0 where
   ends : EndsWithin s at r
 
--- a call that is read at `at` ends behind it
+-- a call that is read at `at` ends after it
 module _ (s : List ℕ) (at : ℕ) where
   either : (b : Bool) {x y : CallRead} → Ends s at x → Ends s at y → Ends s at (cond b x y)
   either true h i = h

@@ -19,7 +19,7 @@ pub no-units : (s : List ℕ) (p : ℕ) (u : List ℕ) → u ≡ unitsIn s p 0 +
 unfolding unitsIn
 no-units s p u = refl
 
--- one unit more, at the end
+-- one more unit, at the end
 units-more : (s : List ℕ) (p n : ℕ) → unitsIn s p (suc n) ≡ unitsIn s p n ++ (be16 s (p + 2 * n) ∷ [])
 unfolding unitsIn
 units-more s p zero = rw add-zero
@@ -27,11 +27,11 @@ units-more s p (suc n) =
     let e : p + 2 + 2 * n ≡ p + 2 * suc n = omega arith in
     ap (λ (l : List ℕ). be16 s p ∷ l) (units-more s (p + 2) n ∙ ap (λ (q : ℕ). unitsIn s (p + 2) n ++ (be16 s q ∷ [])) e)
 
--- the front that is lent
+-- the part of the units that is lent
 pub units-front : (s : List ℕ) (p n : ℕ) (u : List ℕ) → take n (unitsIn s p n ++ drop n u) ≡ unitsIn s p n
 units-front s p n u = take-at (unitsIn s p n) (drop n u) n (length-units s p n)
 
--- one unit more is stored at the front of u
+-- one more unit is stored at the front of u
 pub units-next : (s : List ℕ) (p : ℕ) (u : List ℕ) (k : ℕ) {l : List ℕ} {v : ℕ} → k < length u → l ≡ unitsIn s p k ++ drop k u → v ≡ be16 s (p + 2 * k)
     → set l k v ≡ unitsIn s p (k + 1) ++ drop (k + 1) u
 units-next s p u k {l} {v} lt e f =

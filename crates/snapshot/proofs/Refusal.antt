@@ -1,4 +1,4 @@
--- What holds of a snapshot that is not refused, and its number after each test. Assumes nothing.
+-- What holds of an accepted snapshot, and the number after each test. Assumes nothing.
 use mathlib.Core.List.{List}
 use mathlib.Core.Path.{_≡_, refl, sym, _∙_}
 use Prim.Native.Nat.{ℕ, _*_, _≤_}
@@ -16,7 +16,7 @@ use Rattle.ready.specs.Ready.{panelRefusalOn}
 use Rattle.ready.proofs.Ready.{lent}
 use Rattle.snapshot.specs.Snapshot.{snapshotRefusal, Format, Snapped}
 
--- A panel that is lent as the record says, by the sides that the code reads.
+-- The panel memory has the record's length; width and height are the sides that the code reads.
 pub record Shown (l : List ℕ) (n : ℕ) : Type 0 where
   pub numbers : length l ≡ recordSize
   pub wide : at l widthPlace ≤ 4096
@@ -50,7 +50,7 @@ module _ (l : List ℕ) (n : ℕ) {number : ℕ} (is : number ≡ panelRefusalOn
         long = rw (width-seen l, height-seen l) at fits;
       }
 
--- A snapshot in any format, by the outcome of its tests: the panel is refused, the output has another length, it is made.
+-- A snapshot in any format, by the outcome of its tests: refused for the record or the panel memory, refused for the output, made.
 module _ (f : Format) {l panel out : List ℕ} {number : ℕ} (is : number ≡ panelRefusalOn l (length panel)) where
   pub panel-refused : (number ≡ 0 → ⊥) → Snapped f l panel out number out
   panel-refused k = record { answer = refused l (length panel) is (length out) (f .wanted) k; bytes = refused-bytes _ refl k _ _ }

@@ -39,7 +39,7 @@ module _ (W H : ℕ) (a : Area) (f : Point) (SW SH t c : ℕ) where
   abbrev B : Blit
   B = blitNumbers W H a f SW SH
 
-  -- the word that is taken for a pixel of the blit is one of the source
+  -- the source word of a pixel of the blit is a word of the source
   source-lt : (x y : ℕ) → region B x y ≡ true → sourceWord B x y < SW * SH
   source-lt x y e =
       let d = both (drawnAlong (a .x) (f .x) (a .w) SW x) (drawnAlong (a .y) (f .y) (a .h) SH y) e in
@@ -53,7 +53,7 @@ module _ (W H : ℕ) (a : Area) (f : Point) (SW SH t c : ℕ) where
   abbrev taken : ℕ → ℕ
   taken i = positive (sourceAt (a .x) (f .x) (i % W)) + positive (sourceAt (a .y) (f .y) (i / W)) * SW
 
-  -- from other bytes, as many as the source's sides say
+  -- from other bytes, as many as the source's sides require
   from-part : (src m : List ℕ) → 0 < W → length m ≡ size W H → length src ≡ size SW SH → blitFrom B t c src m ≡ blitPart a f t c src SW SH W m
   from-part src m some long full =
       all-rows-held B t c src m some long full
@@ -76,7 +76,7 @@ module _ (W H : ℕ) (a : Area) (f : Point) (SW SH t c : ℕ) where
         (length-part mem p (size W H) (to .fits)) (length-part other q (size SW SH) (from .fits)) in
         (mark ∙ ap marks e, rw (g, n, k, e, drop-drop, d))
 
-  -- from a surface of the same memory, by the words where both begin
+  -- from a surface of the same memory, given by the words where both begin
   module _ (m : List ℕ) (at src-at : ℕ) (room : 2 * at + size W H ≤ length m) where
     abbrev source : List ℕ
     source = part m (2 * src-at) (size SW SH)
@@ -145,6 +145,6 @@ no-source a f t c W m =
     (λ i. applied t c (word [] (positive (sourceAt (a .x) (f .x) (i % W)) + positive (sourceAt (a .y) (f .y) (i / W)) * 0)) (word m i)) m
     (λ i lt. not-left (drawnAlong (a .y) (f .y) (a .h) 0 (i / W)) (not-right (covers (a .x) (a .w) (i % W)) (none-inside (sourceAt (a .x) (f .x) (i % W)))))
 
--- a part put back as it was
+-- a part put back unchanged
 pub part-back : (m : List ℕ) (p n : ℕ) → withPart m p n (part m p n) ≡ m
 part-back m p n = rw (← drop-drop n p m, take-append-drop n (drop p m), take-append-drop p m)

@@ -1,4 +1,4 @@
--- Any two surfaces of a record lie beside each other: they are one or have no byte in common, and begin at words. Assumes nothing.
+-- Any two surfaces of a record are the same or have no byte in common, and both begin at words. Assumes nothing.
 use mathlib.Core.Bool.{Bool, true, false, cond}
 use mathlib.Core.List.{List, [], _∷_}
 use mathlib.Core.Logic.{inl, inr}
@@ -22,7 +22,7 @@ use Rattle.place.specs.Place.{same, live, placeFrom, locate, whereIs}
 use Rattle.place.proofs.Apart.{clash, Apart, no-first, no-second, panel-store, store-panel, before, behind, apart}
 use Rattle.transfer.specs.Inner.{PlacesApart}
 
--- a place that begins at a word, if it is one
+-- a place, if there is one, begins at a word
 abbrev Whole : Place → Type 0
 Whole Nowhere = Unit
 Whole (At m p w h) = 2 * (p / 2) ≡ p
@@ -79,7 +79,7 @@ beside-itself Nowhere i = tt
 beside-itself (At PanelMemory p w h) i = record { whole = i; whole-source = i; apart = inl (refl, (refl, refl)) }
 beside-itself (At Store p w h) i = record { whole = i; whole-source = i; apart = inl (refl, (refl, refl)) }
 
--- two names of one surface are one name
+-- two names of the same surface are equal
 one-name : (u v : SurfaceId) → same u v ≡ true → u ≡ v
 one-name Panel Panel e = refl
 one-name Panel (Bitmap h) e = clash e

@@ -11,7 +11,7 @@ use Rattle.canvas.proofs.Lent.{lent-in-order, no-mark, no-byte, mark-at
 use Rattle.canvas.proofs.draw_at.Statement.{statement}
 use Rattle.canvas.proofs.draw_at.Tie as tie
 
--- the place that was taken apart, in its memory
+-- the place lies in its memory
 here : (c : tie.After-known-told) →
     let a = c .before .before .before .before .before .before .args in
     let g = c .before .at .given .0 in

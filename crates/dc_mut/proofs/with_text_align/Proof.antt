@@ -1,4 +1,4 @@
--- `dc_mut::with_text_align` meets its contract: the walk of a setting by value, at its field. Assumes nothing.
+-- `dc_mut::with_text_align` meets its contract: the law of settings by value, at its field. Assumes nothing.
 use mathlib.Core.Path.{refl}
 use base.Logic.{emp}
 use contract.Monad.{factI}

@@ -1,4 +1,4 @@
--- `p6::put_header` meets its contract: five pieces, one behind the other. Assumes nothing.
+-- `p6::put_header` meets its contract: five pieces, one after the other. Assumes nothing.
 use native.Mathlib.Omega.{arith}
 use borrow.Author.Needs.{needs}
 use Rattle.p6.proofs.Decimal.{length-header, put-pieces}

@@ -23,7 +23,7 @@ returns c =
     let s = a .before .before .before .before .before .before in
     refused-all (s .args .call) (now (s .args .units)) (now (s .args .numbers)) (memories (now (s .args .panel)) (now (s .args .store))) (a .common-refusal .ensures) (c .if1 .taken)
 
--- past the shared refusals: the record is ready, and what the call's own function ensures is what `perform` promises
+-- after the shared refusals the record is ready, and what the call's own function ensures is what `perform` promises
 module _ (i : tie.Else1) where
   abbrev s : tie.Start
   s = i .before .before .before .before .before .before .before

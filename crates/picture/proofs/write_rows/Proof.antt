@@ -12,7 +12,7 @@ Inv-loop pixels w h row₀ row = row ≤ h
 abbrev μ-loop : tie.MeasureT-loop
 μ-loop pixels w h row₀ row = h - row
 
--- a turn's row
+-- the row of one pass of the loop
 module _ (c : tie.In-loop Inv-loop μ-loop) where
   abbrev a : tie.Start Inv-loop μ-loop
   a = c .before .before .before

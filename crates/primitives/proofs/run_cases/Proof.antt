@@ -1,4 +1,4 @@
--- `primitives::run_cases` meets its contract. The invariant: the memory keeps its length, and the state is sound. The measure is what is left of the script. Assumes nothing.
+-- `primitives::run_cases` meets its contract. The invariant: the memory keeps its length, and the state is sound. The measure is the rest of the script. Assumes nothing.
 use mathlib.Core.Path.{_≡_}
 use Prim.Native.Nat.{_+_, _-_}
 use lib.ListN.{length}

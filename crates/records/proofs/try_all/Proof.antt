@@ -1,4 +1,4 @@
--- `records::try_all` is safe and ends. The invariant: there are no more records than bytes, and the numbers stay as many. The measure is what is left of the stream. Assumes nothing.
+-- `records::try_all` is safe and ends. The invariant: there are no more records than bytes, and the number of numbers is kept. The measure is the rest of the stream. Assumes nothing.
 use mathlib.Core.Path.{_≡_}
 use Prim.Native.Nat.{_-_, _≤_}
 use lib.ListN.{length}

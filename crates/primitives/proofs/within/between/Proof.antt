@@ -1,4 +1,4 @@
--- `primitives::within::between` meets its contract: two surfaces, one right behind the other, have no word in common. Assumes nothing.
+-- `primitives::within::between` meets its contract: two surfaces, one directly after the other, have no word in common. Assumes nothing.
 use borrow.Author.Needs.{needs}
 use Rattle.primitives.proofs.Surfaces.{target-first, source-first}
 use Rattle.primitives.proofs.within.between.Statement.{statement}

@@ -1,4 +1,4 @@
--- `primitives::within::blit_between` meets its contract: what it tests is that both surfaces fit. Assumes nothing.
+-- `primitives::within::blit_between` meets its contract: it tests that both surfaces fit. Assumes nothing.
 use native.Mathlib.Omega.{arith}
 use borrow.Author.Needs.{needs}
 use Rattle.primitives.proofs.Surfaces.{paired}

@@ -1,4 +1,4 @@
--- `primitives::within::blitted` is safe and ends: surfaces that lie apart are placed as a blit wants them. Assumes nothing.
+-- `primitives::within::blitted` is safe and ends: surfaces that lie apart meet what a blit requires. Assumes nothing.
 use borrow.Author.Needs.{needs}
 use Rattle.primitives.proofs.within.blitted.Statement.{statement}
 use Rattle.primitives.proofs.within.blitted.Tie as tie

@@ -1,4 +1,4 @@
--- `records::read::put_slots` meets its contract. The invariant: the slots up to k end within the stream, and the numbers stay as many. Assumes nothing.
+-- `records::read::put_slots` meets its contract. The invariant: the slots up to k end within the stream, and the number of numbers is kept. Assumes nothing.
 use mathlib.Core.Path.{_≡_, _∙_}
 use Prim.Native.Nat.{_-_, _≤_}
 use native.Mathlib.Omega.{arith}

@@ -1,4 +1,4 @@
--- `records::read::put_vacant` is safe and ends. The invariant: the numbers stay as many. Assumes nothing.
+-- `records::read::put_vacant` is safe and ends. The invariant: the number of numbers is kept. Assumes nothing.
 use mathlib.Core.Path.{_≡_}
 use Prim.Native.Nat.{_-_, _≤_}
 use lib.ListN.{length}

@@ -1,4 +1,4 @@
--- `replay::session::perform_all` is safe and ends. The invariant: the numbers, the memories and the units keep their lengths. The measure is what is left of the script. Assumes nothing.
+-- `replay::session::perform_all` is safe and ends. The invariant: the numbers, the memories and the units keep their lengths. The measure is the rest of the script. Assumes nothing.
 use mathlib.Core.Path.{_≡_, refl, sym, _∙_}
 use Prim.Native.Nat.{_-_}
 use native.Mathlib.Omega.{arith}
