@@ -36,8 +36,8 @@
 
 #![deny(missing_docs, unsafe_code)]
 
-mod device;
 pub mod call;
+mod device;
 #[allow(unsafe_code)]
 mod ffi;
 mod object;

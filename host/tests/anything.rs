@@ -5,7 +5,7 @@
 mod random;
 
 use random::Random;
-use ravinefork::{call, Device, Colorref, HostCall, Record, Refusal};
+use ravinefork::{call, Colorref, Device, HostCall, Record, Refusal};
 
 /// Rounds, and calls on each record.
 const ROUNDS: u32 = 400;

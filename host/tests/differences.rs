@@ -4,7 +4,7 @@
 use pocket_kernel::font;
 use pocket_kernel::framebuffer::Framebuffer;
 use pocket_kernel::gdi::{self, GdiState, Surface};
-use ravinefork::{rop3, Area, Device, Bitmap, Colorref, GdiObject, Handle, Pen, Point, Rgb565};
+use ravinefork::{rop3, Area, Bitmap, Colorref, Device, GdiObject, Handle, Pen, Point, Rgb565};
 
 const SCREEN_DC: Handle = Handle::GDI_SCREEN_DC;
 const ONE: Area = Area { x: 0, y: 0, w: 1, h: 1 };

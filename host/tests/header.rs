@@ -8,7 +8,7 @@ use std::path::{Path, PathBuf};
 use std::process::Command;
 
 use ravinefork::{
-    call, rop3, Area, Device, Colorref, Handle, HostCall, Point, Refusal, Reply, MAX_MEMORY,
+    call, rop3, Area, Colorref, Device, Handle, HostCall, Point, Refusal, Reply, MAX_MEMORY,
     MAX_OBJECTS, MAX_SIDE, NO_OBJECT, RECORD, SCREEN, SLOTS,
 };
 

@@ -6,7 +6,7 @@
 use std::fs;
 
 use ravinefork::{
-    call, rop3, Area, Device, DcSurface, Handle, HostCall, Point, Record, DC, RECORD, SCREEN, SLOT,
+    call, rop3, Area, DcSurface, Device, Handle, HostCall, Point, Record, DC, RECORD, SCREEN, SLOT,
     SLOTS,
 };
 

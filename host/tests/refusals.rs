@@ -4,7 +4,7 @@
 
 use pocket_kernel::gdi::{self, GdiState};
 use ravinefork::{
-    call, rop3, Area, Device, Bitmap, Brush, Colorref, Dc, DcSurface, Font, GdiObject, Handle,
+    call, rop3, Area, Bitmap, Brush, Colorref, Dc, DcSurface, Device, Font, GdiObject, Handle,
     HostCall, Pen, Point, Record, Refusal, Reply, Rgb565, Slot, MAX_MEMORY, RECORD, SLOT, SLOTS,
 };
 
@@ -235,7 +235,8 @@ fn an_open_on_another_number_of_numbers_changes_nothing() {
 #[test]
 fn an_accepted_open_blackens_the_panel_and_the_stock_pixel_only() {
     let (mut panel, mut store) = ([0x5A; 30], [0xA5; 4]);
-    let device = Device::open_on(4, 3, panel.as_mut_slice(), store.as_mut_slice()).expect("a device");
+    let device =
+        Device::open_on(4, 3, panel.as_mut_slice(), store.as_mut_slice()).expect("a device");
     assert_eq!(device.panel_pixels(), [0; 24]);
     assert_eq!(device.bitmap_pixels(Handle::STOCK_DEFAULT_BITMAP), Some([0; 2].as_slice()));
     assert_eq!(panel[24..], [0x5A; 6]);

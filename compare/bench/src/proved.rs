@@ -57,7 +57,18 @@ impl Surface {
         let (pixels, len) = self.lent();
         // SAFETY: as in `fill_rect`.
         let drawn = unsafe {
-            ravinefork_fill_rect_rop(pixels, len, self.width, self.height, x, y, w, h, Rgb565(pat), rop)
+            ravinefork_fill_rect_rop(
+                pixels,
+                len,
+                self.width,
+                self.height,
+                x,
+                y,
+                w,
+                h,
+                Rgb565(pat),
+                rop,
+            )
         };
         accepted(drawn)
     }
@@ -93,7 +104,21 @@ impl Surface {
         // SAFETY: as in `fill_rect`, and the other pointer and length are those of `src`.
         let drawn = unsafe {
             ravinefork_blit_from_bytes_rop(
-                pixels, len, width, height, dx, dy, 0, 0, w, h, from, from_len, src_w, src_h, rop,
+                pixels,
+                len,
+                width,
+                height,
+                dx,
+                dy,
+                0,
+                0,
+                w,
+                h,
+                from,
+                from_len,
+                src_w,
+                src_h,
+                rop,
                 Rgb565(pat),
             )
         };
@@ -105,7 +130,17 @@ impl Surface {
         let (text, count) = (s.as_ptr(), s.len());
         // SAFETY: as in `fill_rect`, and the other pointer and length are those of `s`.
         let answer = unsafe {
-            ravinefork_draw_str_u16(pixels, len, self.width, self.height, x, y, text, count, Rgb565(color))
+            ravinefork_draw_str_u16(
+                pixels,
+                len,
+                self.width,
+                self.height,
+                x,
+                y,
+                text,
+                count,
+                Rgb565(color),
+            )
         };
         assert_eq!(answer.refusal, 0);
         answer.advance as i32

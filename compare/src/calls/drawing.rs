@@ -5,8 +5,8 @@ use std::str::FromStr;
 
 use pocket_kernel::framebuffer::colorref_to_rgb565;
 
-use super::device::Device;
 use super::call::Call;
+use super::device::Device;
 use super::handle::STOCK;
 use super::outcome::Answer;
 use super::script::Header;

@@ -6,8 +6,8 @@ use std::fmt;
 use pocket_kernel::font::{GLYPH_H, GLYPH_W};
 use pocket_kernel::gdi::{rop3, STOCK_DEFAULT_BITMAP};
 
-use super::device::{bytes_of, Device};
 use super::call::Call;
+use super::device::{bytes_of, Device};
 use super::outcome::Outcome;
 use super::paint::{drawn, Place};
 use crate::clip::{boxed, cuts, moved, Axis, Stretch, CUTS, MOVES};

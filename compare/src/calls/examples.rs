@@ -6,8 +6,8 @@ use pocket_kernel::gdi::{
     STOCK_SYSTEM_FONT, STOCK_WHITE_BRUSH,
 };
 
-use super::device::MAX_OBJECTS;
 use super::call::Call;
+use super::device::MAX_OBJECTS;
 use super::handle::STOCK;
 use super::step::Step;
 

@@ -1,7 +1,7 @@
 //! Calls on a device: the scripts of docs/call-script.md, run with the original.
 
-mod device;
 mod call;
+mod device;
 mod drawing;
 mod drawn;
 mod edges;

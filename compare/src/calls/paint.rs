@@ -4,8 +4,8 @@ use pocket_kernel::font::draw_str_u16;
 use pocket_kernel::framebuffer::colorref_to_rgb565;
 use pocket_kernel::gdi::{rop3, DcSurface, Surface};
 
-use super::device::{bytes_of, Device, MAX_SIDE};
 use super::call::Call;
+use super::device::{bytes_of, Device, MAX_SIDE};
 use super::outcome::{Answer, Stop};
 use crate::overflow::{caught, Overflow};
 

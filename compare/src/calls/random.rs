@@ -1,7 +1,7 @@
 //! Random call scripts. The calls depend on what is live on the device.
 
-use super::device::{bytes_of, Device, MAX_OBJECTS, MAX_SIDE};
 use super::call::{Call, MAX_UNITS};
+use super::device::{bytes_of, Device, MAX_OBJECTS, MAX_SIDE};
 use super::handle::{a_dc, any_object, dc_for, selectable, source, with_surface};
 use super::paint::Place;
 use super::script::{Header, MOST_PANEL, MOST_STORE};
@@ -368,7 +368,8 @@ mod tests {
             let (mut rng, (_, mut device)) = (Rng::new(1), header.open());
             let create = Call::CreateMemoryDc {};
             (0..objects).for_each(|_| assert!(device.perform(&create).is_ok()));
-            let mut count = |call| (0..9000).filter(|_| looked_at(&mut rng, &device, &call)).count();
+            let mut count =
+                |call| (0..9000).filter(|_| looked_at(&mut rng, &device, &call)).count();
             [count(Call::PanelFill { word: 0 }), count(Call::Delete { handle: 0 })]
         };
         let about = |looks: [usize; 2], due: [usize; 2]| {

@@ -3,8 +3,8 @@
 use pocket_kernel::gdi::rop3::SRCINVERT;
 use pocket_kernel::gdi::GDI_SCREEN_DC;
 
-use super::device::{bytes_of, Device, MAX_SIDE};
 use super::call::Call;
+use super::device::{bytes_of, Device, MAX_SIDE};
 use super::examples::{self, bitmap, delete, select, List, ROOM};
 use super::pictures;
 use super::random;

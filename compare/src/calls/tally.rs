@@ -5,8 +5,8 @@ use std::fmt;
 
 use pocket_kernel::gdi::{is_stock_handle, GdiObject, GDI_SCREEN_DC};
 
-use super::device::Device;
 use super::call::{is_drawing, Call, KINDS};
+use super::device::Device;
 use super::drawn::Drawn;
 use super::outcome::{Answer, Outcome};
 use crate::counts::Counts;

@@ -5,7 +5,7 @@
 use std::path::PathBuf;
 
 use ravinefork::{
-    call, Area, Device, Colorref, Dc, DcSurface, GdiObject, Handle, HostCall, Point, Record,
+    call, Area, Colorref, Dc, DcSurface, Device, GdiObject, Handle, HostCall, Point, Record,
     Refusal, Reply, Rgb565,
 };
 

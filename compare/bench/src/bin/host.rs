@@ -15,7 +15,7 @@ use std::time::Instant;
 use pocket_kernel::font::draw_str_u16;
 use pocket_kernel::framebuffer::{colorref_to_rgb565, Framebuffer};
 use pocket_kernel::gdi::{rop3, GdiState, Surface, GDI_SCREEN_DC};
-use ravinefork::{Area, Device, Colorref, Handle, Point, Refusal, Rgb565};
+use ravinefork::{Area, Colorref, Device, Handle, Point, Refusal, Rgb565};
 
 /// About how long each of them runs in a round, in nanoseconds, and the most calls
 /// that it makes: fewer than there are handles before the stock ones.
