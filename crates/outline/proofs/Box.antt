@@ -21,7 +21,7 @@ use Rattle.surface.proofs.Accepted.{InOrder}
 use Rattle.surface.proofs.Rows.{column-lt, row-lt}
 use Rattle.outline.specs.declared.Edges.{Edges}
 use Rattle.outline.specs.Outline.{rim, outlined, outlineMarks}
-use Rattle.outline.specs.Inner.{edgesOf, sides, Framed}
+use Rattle.outline.specs.Inner.{edgesOf, sides, EdgesFit}
 use Rattle.outline.proofs.Rim.{sides-rim, edges-within}
 
 -- a positive extent is a natural
@@ -46,7 +46,7 @@ module _ (x y w h : ℤ) (color width height : ℕ) (m : List ℕ) where
       by false false p q = absurd (true≢false (sym (together (is-positive w p) (is-positive h q)) ∙ e))
 
   module _ (some : outlineMarks w h ≡ true) (o : InOrder width height (length m)) {columns rows : Edges} (is-columns : columns ≡ edgesOf x w width) (is-rows : rows ≡ edgesOf y h height) where
-    pub edges-framed : Framed width (length m) columns rows
+    pub edges-framed : EdgesFit width (length m) columns rows
     edges-framed =
         let c = edges-within x w width in
         let r = edges-within y h height in

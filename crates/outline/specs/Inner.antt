@@ -25,7 +25,7 @@ sides columns rows c r =
     || rect (columns .from) (columns .to) (rows .from) (rows .second) c r))
 
 -- Edges that lie on a surface of that width and len bytes.
-pub record Framed (width len : ℕ) (columns rows : Edges) : Type 0 where
+pub record EdgesFit (width len : ℕ) (columns rows : Edges) : Type 0 where
   pub some : 0 < width
   pub second-column : columns .second ≤ width
   pub last-column : columns .to ≤ width

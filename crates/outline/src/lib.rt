@@ -6,7 +6,7 @@ ghost use Rattle.words.specs.Words.{painted};
 ghost use Rattle.surface.specs.Region.{wordsOf};
 ghost use Rattle.surface.proofs.Rows.{rect};
 ghost use Rattle.outline.specs.Outline.{outlineMarks, StrokeRect};
-ghost use Rattle.outline.specs.Inner.{edgesOf, sides, Framed};
+ghost use Rattle.outline.specs.Inner.{edgesOf, sides, EdgesFit};
 use clip::Rect;
 use color::Rgb565;
 use surface::Drawn;
@@ -74,7 +74,7 @@ fn edges_of(x: i32, w: i32, side: u32) -> Edges
 
 // Draws the four sides between the edges of the columns, x, and of the rows, y.
 fn stroke_edges(pixels: &mut [u8], width: u32, x: Edges, y: Edges, color: u16)
-    requires { ⌜ Framed width (length (now pixels)) x y ⌝ }
+    requires { ⌜ EdgesFit width (length (now pixels)) x y ⌝ }
     ensures { λ _. ⌜ now (pixels .exit) ≡ painted (wordsOf width (sides x y)) (λ _. color) (now (pixels .entry)) ⌝ }
 {
     stroke_side(pixels, width, x.from, x.to, y.from, y.second, color);
