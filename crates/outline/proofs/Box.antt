@@ -46,8 +46,8 @@ module _ (x y w h : ℤ) (color width height : ℕ) (m : List ℕ) where
       by false false p q = absurd (true≢false (sym (together (is-positive w p) (is-positive h q)) ∙ e))
 
   module _ (some : outlineMarks w h ≡ true) (o : InOrder width height (length m)) {columns rows : Edges} (is-columns : columns ≡ edgesOf x w width) (is-rows : rows ≡ edgesOf y h height) where
-    pub edges-framed : EdgesFit width (length m) columns rows
-    edges-framed =
+    pub edges-fit : EdgesFit width (length m) columns rows
+    edges-fit =
         let c = edges-within x w width in
         let r = edges-within y h height in
         rw (is-columns, is-rows)

@@ -130,12 +130,12 @@ module _ (b : GdiState) (sound : Sound b) (v : Vacant b) where
       by Absent e = v
 
 -- a dirty mark is made
-framed-vacant : (b : GdiState) → Vacant b → Vacant (nextFrame b)
-framed-vacant b v = record { table = v .table; vacant = v .vacant }
+next-frame-vacant : (b : GdiState) → Vacant b → Vacant (nextFrame b)
+next-frame-vacant b v = record { table = v .table; vacant = v .vacant }
 
 dirtied-vacant : (b : GdiState) (s : SurfaceId) → Vacant b → Vacant (dirtied b s)
 unfolding dirtied
-dirtied-vacant b Panel v = framed-vacant b v
+dirtied-vacant b Panel v = next-frame-vacant b v
 dirtied-vacant b (Bitmap h) v = by (eqb h stockBitmap) (findOf b h) refl
   where
     by : (t : Bool) (q : Found) → findOf b h ≡ q → Vacant (cond t (withStockDirty b) (createdDirtied b q))

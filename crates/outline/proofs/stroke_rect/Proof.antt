@@ -9,7 +9,7 @@ use Rattle.surface.proofs.Accepted.{InOrder, in-order}
 use Rattle.surface.proofs.Answers.{drawn-done, drawing-refused}
 use Rattle.outline.specs.Outline.{outlineMarks}
 use Rattle.outline.specs.Inner.{edgesOf}
-use Rattle.outline.proofs.Box.{none-outlined, edges-framed, sides-outlined}
+use Rattle.outline.proofs.Box.{none-outlined, edges-fit, sides-outlined}
 use Rattle.outline.proofs.stroke_rect.Statement.{statement}
 use Rattle.outline.proofs.stroke_rect.Tie as tie
 
@@ -49,7 +49,7 @@ stroke-edges-requires : tie.Need-stroke-edges-requires
 stroke-edges-requires c κs =
     let k = c .before in
     let a = s k .args in
-    edges-framed (a .x) (a .y) (a .w) (a .h) (a .color .0) (a .width) (a .height) (a .pixels .now) (due k) (order k) (columns-are k) (rows-are k)
+    edges-fit (a .x) (a .y) (a .w) (a .h) (a .color .0) (a .width) (a .height) (a .pixels .now) (due k) (order k) (columns-are k) (rows-are k)
 
 same-length : tie.Need-same-length
 same-length c = search needs
