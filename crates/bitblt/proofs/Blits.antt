@@ -25,7 +25,7 @@ use Rattle.plan.specs.Stroke.{dirtiedBy, paintsOf}
 use Rattle.plan.specs.Drawing.{onSource, patternFill, blittedAt, blitStroke, blitOn, blit}
 use Rattle.plan.proofs.Followed.{StrokedOn}
 use Rattle.transfer.specs.Inner.{PlacesApart, transferred}
-use Rattle.transfer.proofs.PlacesApart.{beside}
+use Rattle.transfer.proofs.PlacesApart.{places-apart}
 use Rattle.draw.proofs.Targeted.{Targeted, no-dc, no-surface, on, Sourced, no-source-dc, no-source-surface, from-source}
 
 -- the two sites that were found
@@ -37,7 +37,7 @@ module _ {b : GdiState} {s q : SurfaceId} {i j : Site} (v : SiteFound b s i) (w 
   from-found = ap (λ (x : Site). x .at) (w .same)
 
   pub apart-found : PlacesApart (i .at) (j .at)
-  apart-found = rw (at-found, from-found) (beside b s q)
+  apart-found = rw (at-found, from-found) (places-apart b s q)
 
 -- the blit between them, with its mark, is the stroke in the colour k
 pub blit-made : {l l′ : List ℕ} {s q : SurfaceId} {i j : Site} → SiteFound (view l) s i → SiteFound (view l) q j → (a : Area) (p : Point) (table : ℕ) {c k : ℕ} {due : Bool} {ms ms′ : Memories}

@@ -24,8 +24,8 @@ pub record Unpainted (b : GdiState) (p : Plan) : Type 0 where
   pub paint : p .paint ≡ []
   pub still : Still b (p .outcome .state)
 
-told-unpainted : (b : GdiState) (a : Parts) → Unpainted b (recordOnly b a)
-told-unpainted b a = record { paint = refl; still = still-same b }
+record-only-unpainted : (b : GdiState) (a : Parts) → Unpainted b (recordOnly b a)
+record-only-unpainted b a = record { paint = refl; still = still-same b }
 
 -- another DC record, with the same kind of surface
 module _ (b : GdiState) (dc : ℕ) {p : Spot} {d₀ : Dc} (d : Dc) (a : Parts) (found : dcOf b dc ≡ Is p d₀) (same : d .surface ≡ d₀ .surface) where
@@ -61,9 +61,9 @@ unfolding selectInto
 select-unpainted b dc h = by (isOther (kindOf b h)) (dcOf b dc) refl
   where
     by : (t : Bool) (q : DcFound) → dcOf b dc ≡ q → Unpainted b (cond t (recordOnly b (answered 0)) (selectAt b dc h (kindOf b h) q))
-    by true q e = told-unpainted b _
+    by true q e = record-only-unpainted b _
     by false (Is p d) e = updated-unpainted b dc _ _ e (select-surface d h (kindOf b h))
-    by false Absent e = told-unpainted b _
+    by false Absent e = record-only-unpainted b _
 
 pub setting-unpainted : (old : Dc → Parts) (new : Dc → Dc) → ((d : Dc) → new d .surface ≡ d .surface) → (b : GdiState) (dc : ℕ) → Unpainted b (setting old new b dc)
 unfolding setting
@@ -71,4 +71,4 @@ setting-unpainted old new same b dc = by (dcOf b dc) refl
   where
     by : (q : DcFound) → dcOf b dc ≡ q → Unpainted b (settingAt old new b dc q)
     by (Is p d) e = updated-unpainted b dc _ _ e (same d)
-    by Absent e = told-unpainted b _
+    by Absent e = record-only-unpainted b _

@@ -8,7 +8,7 @@ ghost use mathlib.Core.Path.{_≡_};
 ghost use lib.ListN.{length};
 ghost use Rattle.numbers.specs.Layout.{recordSize};
 use harness::LONGEST;
-use tried::Told;
+use tried::Verdict;
 
 // `REC1`
 const MAGIC: u32 = 0x5245_4331;
@@ -41,7 +41,7 @@ fn begins_well(s: &[u8]) -> bool {
     bigendian::read_u32(s, 0) == MAGIC
 }
 
-// Prints a line for each record, whose numbers are put into `l`; a bad record ends the list.
+// Prints a line for each record, whose numbers are put into `numbers`; a bad record ends the list.
 fn try_all(s: &[u8], numbers: &mut [u32])
     requires { ⌜ length (now numbers) ≡ recordSize ⌝ }
 {
@@ -53,18 +53,18 @@ fn try_all(s: &[u8], numbers: &mut [u32])
             lines::empty().text(b"bad record").print();
             return;
         }
-        print_told(i, tried::on_memories(numbers, case));
+        print_verdict(i, tried::on_memories(numbers, case));
         at = case.next;
         i += 1;
     }
 }
 
 // Prints the line of record i.
-fn print_told(i: u64, told: Told) {
-    let numbers = lines::empty().text(b"record ").decimal(i).space();
-    match told {
-        Told::Number(no) => numbers.decimal(no as u64).print(),
-        Told::Changed => numbers.text(b"changed").print(),
-        Told::Divided => numbers.text(b"divided").print(),
+fn print_verdict(i: u64, verdict: Verdict) {
+    let line = lines::empty().text(b"record ").decimal(i).space();
+    match verdict {
+        Verdict::Number(no) => line.decimal(no as u64).print(),
+        Verdict::Changed => line.text(b"changed").print(),
+        Verdict::Divided => line.text(b"divided").print(),
     }
 }

@@ -23,7 +23,7 @@ const TRIES: u8 = 19;
 const UNITS: [u16; 3] = [0x52, 0x41, 0x56];
 
 // How the calls refuse a record: with 9, with 8, or 0 for neither; a refused call changed something; the calls do not agree.
-pub enum Told {
+pub enum Verdict {
     Number(u32),
     Changed,
     Divided,
@@ -36,7 +36,7 @@ struct Crcs {
 }
 
 // How the calls refuse a record, on memories of the lengths that are lent with it.
-pub fn on_memories(numbers: &[u32], case: Case) -> Told
+pub fn on_memories(numbers: &[u32], case: Case) -> Verdict
     requires { ⌜ length (now numbers) ≡ recordSize ⌝ }
     requires { ⌜ (case .«panel_lent» ≤ 65536) × (case .«store_lent» ≤ 65536) ⌝ }
 {
@@ -46,7 +46,7 @@ pub fn on_memories(numbers: &[u32], case: Case) -> Told
 }
 
 // The same on the first bytes of longer memories.
-fn on_parts(numbers: &[u32], case: Case, panel: &mut [u8], store: &mut [u8]) -> Told
+fn on_parts(numbers: &[u32], case: Case, panel: &mut [u8], store: &mut [u8]) -> Verdict
     requires { ⌜ length (now numbers) ≡ recordSize ⌝ }
     requires { ⌜ (case .«panel_lent» ≤ length (now panel)) × (case .«store_lent» ≤ length (now store)) ⌝ }
 {
@@ -60,37 +60,37 @@ fn on_parts(numbers: &[u32], case: Case, panel: &mut [u8], store: &mut [u8]) -> 
 }
 
 // How the calls refuse a record, each on a copy of it and on fresh memories.
-fn by_all(numbers: &[u32], panel: &mut [u8], store: &mut [u8]) -> Told
+fn by_all(numbers: &[u32], panel: &mut [u8], store: &mut [u8]) -> Verdict
     requires { ⌜ length (now numbers) ≡ recordSize ⌝ }
 {
     harness::fill(panel, 0, 1);
     harness::fill(store, 0, 1);
     let was = crcs_of(panel, store);
     let first = by_one(numbers, 0, was, panel, store);
-    let Told::Number(no) = first else {
+    let Verdict::Number(no) = first else {
         return first;
     };
     by_others(numbers, no, was, panel, store)
 }
 
 // The same, if the first call is refused with this number.
-fn by_others(numbers: &[u32], no: u32, was: Crcs, panel: &mut [u8], store: &mut [u8]) -> Told
+fn by_others(numbers: &[u32], no: u32, was: Crcs, panel: &mut [u8], store: &mut [u8]) -> Verdict
     requires { ⌜ length (now numbers) ≡ recordSize ⌝ }
 {
     for k in 1u8..TRIES {
         let next = by_one(numbers, k, was, panel, store);
-        let Told::Number(other) = next else {
+        let Verdict::Number(other) = next else {
             return next;
         };
         if other != no {
-            return Told::Divided;
+            return Verdict::Divided;
         }
     }
-    Told::Number(no)
+    Verdict::Number(no)
 }
 
 // How try k refuses a copy of the record. The filled memories have these CRCs.
-fn by_one(numbers: &[u32], k: u8, was: Crcs, panel: &mut [u8], store: &mut [u8]) -> Told
+fn by_one(numbers: &[u32], k: u8, was: Crcs, panel: &mut [u8], store: &mut [u8]) -> Verdict
     requires { ⌜ length (now numbers) ≡ recordSize ⌝ }
 {
     let mut copy = [0u32; numbers::RECORD];
@@ -106,21 +106,21 @@ fn on_copy(
     was: Crcs,
     panel: &mut [u8],
     store: &mut [u8],
-) -> Told
+) -> Verdict
     requires { ⌜ length (now copy) ≡ length (now numbers) ⌝ }
 {
     harness::fill(panel, 0, 1);
     harness::fill(store, 0, 1);
     let no = common_refusal(perform::perform(copy, call(k), &UNITS, panel, store));
     if no == 0 {
-        return Told::Number(0);
+        return Verdict::Number(0);
     }
     if same_crcs(was, crcs_of(panel, store)) {
         if same::are_same(numbers, copy) {
-            return Told::Number(no);
+            return Verdict::Number(no);
         }
     }
-    Told::Changed
+    Verdict::Changed
 }
 
 // The CRCs of the memories.

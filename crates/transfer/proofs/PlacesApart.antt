@@ -61,14 +61,14 @@ whole b (Bitmap h) = by (eqb h stockBitmap)
     by true = omega arith
     by false = locate-whole (live b) 2 h (omega arith)
 
-beside-nowhere : (u : Place) → PlacesApart u Nowhere
-beside-nowhere Nowhere = tt
-beside-nowhere (At PanelMemory p w h) = tt
-beside-nowhere (At Store p w h) = tt
+apart-nowhere : (u : Place) → PlacesApart u Nowhere
+apart-nowhere Nowhere = tt
+apart-nowhere (At PanelMemory p w h) = tt
+apart-nowhere (At Store p w h) = tt
 
 beside-apart : {u v : Place} → Whole u → Whole v → Apart u v → PlacesApart u v
 beside-apart i j no-first = tt
-beside-apart {u} i j no-second = beside-nowhere u
+beside-apart {u} i j no-second = apart-nowhere u
 beside-apart i j panel-store = tt
 beside-apart i j store-panel = tt
 beside-apart i j (before e) = record { whole = i; whole-source = j; apart = inr (inl e) }
@@ -86,8 +86,8 @@ one-name Panel (Bitmap h) e = clash e
 one-name (Bitmap h) Panel e = clash e
 one-name (Bitmap h) (Bitmap k) e = ap Bitmap (eqb-true h k e)
 
-pub beside : (b : GdiState) (u v : SurfaceId) → PlacesApart (whereIs b u) (whereIs b v)
-beside b u v = by (same u v) refl
+pub places-apart : (b : GdiState) (u v : SurfaceId) → PlacesApart (whereIs b u) (whereIs b v)
+places-apart b u v = by (same u v) refl
   where
     by : (t : Bool) → same u v ≡ t → PlacesApart (whereIs b u) (whereIs b v)
     by true e = subst (λ (z : SurfaceId). PlacesApart (whereIs b u) (whereIs b z)) (one-name u v e) (beside-itself (whereIs b u) (whole b u))

@@ -40,8 +40,8 @@ returns c = search needs
 on-memories-requires : tie.Need-on-memories-requires Inv-loop μ-loop
 on-memories-requires c κs = search needs
 
-print-told-requires : tie.Need-print-told-requires Inv-loop μ-loop
-print-told-requires c κs = search needs
+print-verdict-requires : tie.Need-print-verdict-requires Inv-loop μ-loop
+print-verdict-requires c κs = search needs
 
 add-i : tie.Need-add-i Inv-loop μ-loop
 add-i c = search needs
@@ -73,7 +73,7 @@ try-all-spec =
     same-length
     returns
     on-memories-requires
-    print-told-requires
+    print-verdict-requires
     add-i
     loop-less
     loop-again
