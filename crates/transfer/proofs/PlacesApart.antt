@@ -66,18 +66,18 @@ apart-nowhere Nowhere = tt
 apart-nowhere (At PanelMemory p w h) = tt
 apart-nowhere (At Store p w h) = tt
 
-beside-apart : {u v : Place} → Whole u → Whole v → Apart u v → PlacesApart u v
-beside-apart i j no-first = tt
-beside-apart {u} i j no-second = apart-nowhere u
-beside-apart i j panel-store = tt
-beside-apart i j store-panel = tt
-beside-apart i j (before e) = record { whole = i; whole-source = j; apart = inr (inl e) }
-beside-apart i j (behind e) = record { whole = i; whole-source = j; apart = inr (inr e) }
+apart-places : {u v : Place} → Whole u → Whole v → Apart u v → PlacesApart u v
+apart-places i j no-first = tt
+apart-places {u} i j no-second = apart-nowhere u
+apart-places i j panel-store = tt
+apart-places i j store-panel = tt
+apart-places i j (before e) = record { whole = i; whole-source = j; apart = inr (inl e) }
+apart-places i j (behind e) = record { whole = i; whole-source = j; apart = inr (inr e) }
 
-beside-itself : (u : Place) → Whole u → PlacesApart u u
-beside-itself Nowhere i = tt
-beside-itself (At PanelMemory p w h) i = record { whole = i; whole-source = i; apart = inl (refl, (refl, refl)) }
-beside-itself (At Store p w h) i = record { whole = i; whole-source = i; apart = inl (refl, (refl, refl)) }
+same-place : (u : Place) → Whole u → PlacesApart u u
+same-place Nowhere i = tt
+same-place (At PanelMemory p w h) i = record { whole = i; whole-source = i; apart = inl (refl, (refl, refl)) }
+same-place (At Store p w h) i = record { whole = i; whole-source = i; apart = inl (refl, (refl, refl)) }
 
 -- two names of the same surface are equal
 one-name : (u v : SurfaceId) → same u v ≡ true → u ≡ v
@@ -90,5 +90,5 @@ pub places-apart : (b : GdiState) (u v : SurfaceId) → PlacesApart (whereIs b u
 places-apart b u v = by (same u v) refl
   where
     by : (t : Bool) → same u v ≡ t → PlacesApart (whereIs b u) (whereIs b v)
-    by true e = subst (λ (z : SurfaceId). PlacesApart (whereIs b u) (whereIs b z)) (one-name u v e) (beside-itself (whereIs b u) (whole b u))
-    by false e = beside-apart (whole b u) (whole b v) (apart b u v e)
+    by true e = subst (λ (z : SurfaceId). PlacesApart (whereIs b u) (whereIs b z)) (one-name u v e) (same-place (whereIs b u) (whole b u))
+    by false e = apart-places (whole b u) (whole b v) (apart b u v e)
