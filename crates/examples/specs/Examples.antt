@@ -73,9 +73,9 @@ unfolding wideBlue
 gray-blue = refl
 
 -- 555 word 0x0200 is 565 word 0x0420
-pub green555 : from555 0x0200 ≡ 0x0420
+pub green-repeated : from555 0x0200 ≡ 0x0420
 unfolding from555
-green555 = refl
+green-repeated = refl
 
 -- table B8 (hex), P 0x00FF, S 0x0F0F, D 0x3333 gives 0x03F3
 pub table-b8 : applied 0xB8 0x00FF 0x0F0F 0x3333 ≡ 0x03F3
@@ -174,38 +174,38 @@ unfolding taintAfter plan commonRefusal isSound sumBelow act blit targetOf dcOf 
 bitmaps-untainted h x y e = clash e
 
 -- a fresh device: a panel of 1 by 1, a store of 12 bytes
-abbrev device : GdiState
-device = fresh 2 12 1 1
+abbrev smallest : GdiState
+smallest = fresh 2 12 1 1
 
 -- after 0xDEAD_5700 comes 0xDEAD_570A
-pub last-before-stock : newHandle (withObjects device 0xDEAD_5700 0 (device .objects)) ≡ 0xDEAD_5700
+pub last-before-stock : newHandle (withObjects smallest 0xDEAD_5700 0 (smallest .objects)) ≡ 0xDEAD_5700
 unfolding firstFree free isStock
 last-before-stock = refl
 
-pub stock-stepped-over : (o : GdiObject) → newHandle (added (withObjects device 0xDEAD_5700 0 (device .objects)) o) ≡ 0xDEAD_570A
+pub stock-stepped-over : (o : GdiObject) → newHandle (added (withObjects smallest 0xDEAD_5700 0 (smallest .objects)) o) ≡ 0xDEAD_570A
 unfolding added firstFree free isStock
 stock-stepped-over o = refl
 
 -- fresh device, store of 12 bytes: bitmap 0 by 5 fits as 1 by 5
-pub bitmap-fits : createBitmap device 0 5 .outcome .answer ≡ answered 0xDEAD_1000
+pub bitmap-fits : createBitmap smallest 0 5 .outcome .answer ≡ answered 0xDEAD_1000
 unfolding createBitmap createOf sumBelow firstFree free isStock
 bitmap-fits = refl
 
-pub bitmap-widened : objectAt (createBitmap device 0 5 .outcome .state) 0 ≡ BitmapOf (freshBitmap 1 5)
+pub bitmap-widened : objectAt (createBitmap smallest 0 5 .outcome .state) 0 ≡ BitmapOf (freshBitmap 1 5)
 unfolding createBitmap createOf sumBelow added firstFree free isStock
 bitmap-widened = refl
 
 -- 1 by 6 is 7
-pub bitmap-too-long : createBitmap device 1 6 ≡ refuse 7 device
+pub bitmap-too-long : createBitmap smallest 1 6 ≡ refuse 7 smallest
 unfolding createBitmap createOf sumBelow
 bitmap-too-long = refl
 
 -- side 4,097 is 6
-pub bitmap-too-wide : (h : ℕ) → createBitmap device 4097 h ≡ refuse 6 device
+pub bitmap-too-wide : (h : ℕ) → createBitmap smallest 4097 h ≡ refuse 6 smallest
 unfolding createBitmap
 bitmap-too-wide h = refl
 
-pub bitmap-too-high : createBitmap device 1 4097 ≡ refuse 6 device
+pub bitmap-too-high : createBitmap smallest 1 4097 ≡ refuse 6 smallest
 unfolding createBitmap
 bitmap-too-high = refl
 

@@ -4,7 +4,7 @@ use Prim.Native.Nat.{ℕ, _≤_}
 use Rattle.gdi.specs.declared.Slot.{Slot}
 use Rattle.records.specs.declared.read.SlotRead.{SlotRead}
 use Rattle.records.specs.declared.read.SlotRead.the-variants.{Is}
-use Rattle.records.specs.Records.{Within}
+use Rattle.records.specs.Records.{SlotWithin}
 
-pub ends : {r : SlotRead} {slot : Slot} {next : ℕ} (at n : ℕ) → Within at n r → r ≡ Is slot next → (at ≤ next) × (next ≤ n)
-ends at n h e = subst (Within at n) e h
+pub ends : {r : SlotRead} {slot : Slot} {next : ℕ} (at n : ℕ) → SlotWithin at n r → r ≡ Is slot next → (at ≤ next) × (next ≤ n)
+ends at n h e = subst (SlotWithin at n) e h

@@ -6,9 +6,9 @@ use Rattle.records.specs.declared.read.SlotRead.{SlotRead}
 use Rattle.records.specs.declared.read.SlotRead.the-variants.{Bad, Is}
 
 -- a slot at `at` ends within the stream
-abbrev pub Within : (at n : ℕ) → SlotRead → Type 0
-Within at n Bad = Unit
-Within at n (Is s next) = (at ≤ next) × (next ≤ n)
+abbrev pub SlotWithin : (at n : ℕ) → SlotRead → Type 0
+SlotWithin at n Bad = Unit
+SlotWithin at n (Is s next) = (at ≤ next) × (next ≤ n)
 
 -- the same of a record's slots
 pub record SlotsWithin (at n : ℕ) (r : Slots) : Type 0 where

@@ -3,7 +3,7 @@ ghost use mathlib.Core.Path.{_≡_};
 ghost use Prim.Native.Nat.{_≤_, _<_, _+_};
 ghost use lib.ListN.{length};
 ghost use Rattle.numbers.specs.Layout.{recordSize};
-ghost use Rattle.records.specs.Records.{SlotsWithin, Within, Taken};
+ghost use Rattle.records.specs.Records.{SlotsWithin, SlotWithin, Taken};
 use color::Colorref;
 use gdi::Bitmap;
 use gdi::Brush;
@@ -208,7 +208,7 @@ fn put_slots(s: &[u8], at: usize, n: usize, numbers: &mut [u32]) -> Slots
 // The slot at `at`: handle, kind, fields.
 fn read_slot(s: &[u8], at: usize) -> SlotRead
     requires { ⌜ at ≤ length (now s) ⌝ }
-    ensures { λ r. ⌜ Within at (length (now (s .entry))) r ⌝ }
+    ensures { λ r. ⌜ SlotWithin at (length (now (s .entry))) r ⌝ }
 {
     if s.len() - at < 5 {
         return SlotRead::Bad;
@@ -226,7 +226,7 @@ fn read_slot(s: &[u8], at: usize) -> SlotRead
 // The slot of a DC at `at`.
 fn dc_slot(s: &[u8], at: usize) -> SlotRead
     requires { ⌜ at ≤ length (now s) ⌝ }
-    ensures { λ r. ⌜ Within at (length (now (s .entry))) r ⌝ }
+    ensures { λ r. ⌜ SlotWithin at (length (now (s .entry))) r ⌝ }
 {
     if s.len() - at < 44 {
         return SlotRead::Bad;
@@ -300,7 +300,7 @@ fn bitmap_of(flag: u8, handle: u32) -> SelectedBitmap {
 // The slot of a bitmap at `at`.
 fn bitmap_slot(s: &[u8], at: usize) -> SlotRead
     requires { ⌜ at ≤ length (now s) ⌝ }
-    ensures { λ r. ⌜ Within at (length (now (s .entry))) r ⌝ }
+    ensures { λ r. ⌜ SlotWithin at (length (now (s .entry))) r ⌝ }
 {
     if s.len() - at < 14 {
         return SlotRead::Bad;
@@ -320,7 +320,7 @@ fn bitmap_slot(s: &[u8], at: usize) -> SlotRead
 // The slot of a brush at `at`.
 fn brush_slot(s: &[u8], at: usize) -> SlotRead
     requires { ⌜ at ≤ length (now s) ⌝ }
-    ensures { λ r. ⌜ Within at (length (now (s .entry))) r ⌝ }
+    ensures { λ r. ⌜ SlotWithin at (length (now (s .entry))) r ⌝ }
 {
     if s.len() - at < 9 {
         return SlotRead::Bad;
@@ -335,7 +335,7 @@ fn brush_slot(s: &[u8], at: usize) -> SlotRead
 // The slot of a pen at `at`.
 fn pen_slot(s: &[u8], at: usize) -> SlotRead
     requires { ⌜ at ≤ length (now s) ⌝ }
-    ensures { λ r. ⌜ Within at (length (now (s .entry))) r ⌝ }
+    ensures { λ r. ⌜ SlotWithin at (length (now (s .entry))) r ⌝ }
 {
     if s.len() - at < 13 {
         return SlotRead::Bad;
@@ -351,7 +351,7 @@ fn pen_slot(s: &[u8], at: usize) -> SlotRead
 // The slot of a font at `at`.
 fn font_slot(s: &[u8], at: usize) -> SlotRead
     requires { ⌜ at ≤ length (now s) ⌝ }
-    ensures { λ r. ⌜ Within at (length (now (s .entry))) r ⌝ }
+    ensures { λ r. ⌜ SlotWithin at (length (now (s .entry))) r ⌝ }
 {
     if s.len() - at < 9 {
         return SlotRead::Bad;
