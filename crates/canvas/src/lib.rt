@@ -3,8 +3,9 @@ ghost use mathlib.Core.Path.{_≡_};
 ghost use lib.ListN.{length};
 ghost use Rattle.surface.proofs.Accepted.{InOrder};
 ghost use Rattle.place.specs.Place.{Within};
-ghost use Rattle.paint.specs.Memories.{memories, widthOf, over};
+ghost use Rattle.paint.specs.Memories.{widthOf, over};
 ghost use Rattle.plan.specs.Drawing.{marksAt};
+ghost use Rattle.plan.proofs.Followed.{OnMemories};
 ghost use Rattle.canvas.specs.Inner.{marksOf, drawnOf, UnitsFit};
 use color::Rgb565;
 use place::Memory;
@@ -31,7 +32,7 @@ pub fn draw_at(
     requires { ⌜ Within (length (now panel)) (length (now store)) at ⌝ }
     requires { ⌜ UnitsFit drawing (length (now units)) ⌝ }
     ensures { λ r. ⌜ r ≡ marksAt at (marksOf drawing) ⌝ }
-    ensures bytes { λ _. ⌜ memories (now (panel .exit)) (now (store .exit)) ≡ over at (drawnOf drawing (now (units .entry)) (color .0) (widthOf at)) (memories (now (panel .entry)) (now (store .entry))) ⌝ }
+    ensures bytes { λ _. ⌜ OnMemories (λ ms ms′. ms′ ≡ over at (drawnOf drawing (now (units .entry)) (color .0) (widthOf at)) ms) panel store ⌝ }
 {
     match at {
         Place::Nowhere => false,

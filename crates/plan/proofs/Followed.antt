@@ -4,22 +4,27 @@ use mathlib.Core.List.{List, _++_}
 use mathlib.Core.Path.{_≡_, refl, sym, _∙_, ap, subst}
 use Prim.Native.Nat.{ℕ}
 use lib.ListN.{drop}
+use denote.Ref.{now}
 use Rattle.gdi.specs.declared.GdiState.{GdiState}
 use Rattle.numbers.specs.Layout.{slotPlace}
 use Rattle.numbers.specs.View.{view, isRecord, Updated}
 use Rattle.numbers.proofs.Kept.{updated-same}
-use Rattle.paint.specs.Memories.{Memories}
+use Rattle.paint.specs.Memories.{Memories, memories}
 use Rattle.paint.specs.Paint.{after}
 use Rattle.plan.specs.Answer.{Parts, refused}
 use Rattle.plan.specs.Plan.{Outcome, Plan, recordOnly, refuse}
 use Rattle.plan.specs.Stroke.{Stroke, dirtiedBy, paintsOf, drawnBy}
-use Rattle.plan.specs.Followed.{Followed}
+use Rattle.plan.specs.Followed.{Followed, Slice}
 use Rattle.plan.proofs.Strokes.{Stroked, dirtied-by-count, stroked-then}
 
 -- Strokes were made on a flat record.
 pub record StrokedOn (l : List ℕ) (ss : List Stroke) (ms : Memories) (l′ : List ℕ) (ms′ : Memories) : Type 0 where
   pub numbers : Updated l (dirtiedBy (view l) ss) l′
   pub memories : ms′ ≡ after (view l) (paintsOf ss) ms
+
+-- A relation of the two memories before and after, stated on the slices that a function is lent.
+abbrev pub OnMemories : (Memories → Memories → Type 0) → (panel store : Slice) → Type 0
+OnMemories R panel store = R (memories (now (panel .entry)) (now (store .entry))) (memories (now (panel .exit)) (now (store .exit)))
 
 -- two updates in turn, with the number of objects kept
 pub updated-twice : {l l₁ l′ : List ℕ} {b₁ b : GdiState} → b .count ≡ b₁ .count → Updated l b₁ l₁ → Updated l₁ b l′ → Updated l b l′

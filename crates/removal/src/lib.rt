@@ -3,14 +3,12 @@ ghost use mathlib.Core.Path.{_≡_};
 ghost use mathlib.Core.Bool.{true};
 ghost use Prim.Native.Nat.{_<_};
 ghost use lib.ListN.{length};
-ghost use Rattle.gdi.specs.Record.{bytesOf};
-ghost use Rattle.gdi.specs.Lookup.{objectAt};
 ghost use Rattle.numbers.specs.Layout.{countPlace};
 ghost use Rattle.numbers.specs.Block.{at};
 ghost use Rattle.numbers.specs.View.{view, isRecord, Updated};
-ghost use Rattle.sound.specs.Sound.{startOf, used, isSound};
-ghost use Rattle.memory.specs.Gap.{closedUp};
+ghost use Rattle.sound.specs.Sound.{isSound};
 ghost use Rattle.removal.specs.Removal.{withoutAt};
+ghost use Rattle.removal.specs.Inner.{withoutPixels};
 use numbers::COUNT;
 use numbers::SLOT;
 use numbers::SLOTS;
@@ -22,7 +20,7 @@ pub fn take_out(numbers: &mut [u32], store: &mut [u8], i: usize)
     requires { ⌜ i < at (now numbers) countPlace ⌝ }
     requires { ⌜ length (now store) ≡ view (now numbers) .«store_len» ⌝ }
     ensures { λ _. ⌜ Updated (now (numbers .entry)) (withoutAt (view (now (numbers .entry))) i) (now (numbers .exit)) ⌝ }
-    ensures { λ _. ⌜ now (store .exit) ≡ closedUp 0 (now (store .entry)) (startOf (view (now (numbers .entry))) i) (bytesOf (objectAt (view (now (numbers .entry))) i)) (used (view (now (numbers .entry)))) ⌝ }
+    ensures { λ _. ⌜ now (store .exit) ≡ withoutPixels (view (now (numbers .entry))) i (now (store .entry)) ⌝ }
 {
     let count = numbers[COUNT] as usize;
     let p = sound::start_of(numbers, i);

@@ -42,9 +42,10 @@ blitPart a p t c src src-w src-h width m =
     painted (wordsOf width (drawnAt (a .x) (a .y) (p .x) (p .y) (a .w) (a .h) src-w src-h))
     (λ i. applied t c (word src (positive (sourceAt (a .x) (p .x) (i % width)) + positive (sourceAt (a .y) (p .y) (i / width)) * src-w)) (word m i)) m
 
--- a memory after a blit from the bytes src of another surface, or of its own, to the surface at byte p
-abbrev pub blitInto : (p width height : ℕ) → Area → (from : Point) → (table pat : ℕ) → (src : List ℕ) → (src-w src-h : ℕ) → (m : List ℕ) → List ℕ
-blitInto p width height a z t c src src-w src-h m = withPart m p (size width height) (blitPart a z t c src src-w src-h width (part m p (size width height)))
+-- a memory m after a blit to its surface at byte p from the surface at byte q of the memory src
+abbrev pub blitInto : (p width height : ℕ) → Area → (from : Point) → (table pat : ℕ) → (src : List ℕ) → (q src-w src-h : ℕ) → (m : List ℕ) → List ℕ
+blitInto p width height a z t c src q src-w src-h m =
+    withPart m p (size width height) (blitPart a z t c (part src q (size src-w src-h)) src-w src-h width (part m p (size width height)))
 
 -- a blit's numbers, from an area and a point
 abbrev pub blitNumbers : (width height : ℕ) → Area → (from : Point) → (src-w src-h : ℕ) → Blit

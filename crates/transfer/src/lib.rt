@@ -1,13 +1,11 @@
 // Blits between two surfaces in either memory. Source pixels are read as they were before the call.
 ghost use mathlib.Core.Path.{_≡_};
 ghost use lib.ListN.{length};
-ghost use Rattle.words.specs.Parts.{part};
 ghost use Rattle.rop3.specs.Rop3.{tableOf};
 ghost use Rattle.blit.specs.Blit.{marks};
-ghost use Rattle.gdi.specs.Record.{size};
 ghost use Rattle.place.specs.Place.{Inside, Within};
-ghost use Rattle.paint.specs.Memories.{memories};
 ghost use Rattle.plan.specs.Drawing.{blittedAt};
+ghost use Rattle.plan.proofs.Followed.{OnMemories};
 ghost use Rattle.transfer.specs.Inner.{SameOrApart, PlacesApart, blitNumbers, blitInto, transferred};
 use blit::Blit;
 use color::Rgb565;
@@ -30,7 +28,7 @@ pub fn blit_at(
     requires { ⌜ Within (length (now panel)) (length (now store)) at × Within (length (now panel)) (length (now store)) src ⌝ }
     requires { ⌜ PlacesApart at src ⌝ }
     ensures { λ r. ⌜ r ≡ blittedAt at src area from ⌝ }
-    ensures bytes { λ _. ⌜ memories (now (panel .exit)) (now (store .exit)) ≡ transferred at src area from (tableOf rop) (pat .0) (memories (now (panel .entry)) (now (store .entry))) ⌝ }
+    ensures bytes { λ _. ⌜ OnMemories (λ ms ms′. ms′ ≡ transferred at src area from (tableOf rop) (pat .0) ms) panel store ⌝ }
 {
     match at {
         Place::Nowhere => false,
@@ -71,7 +69,7 @@ fn blit_between(
 ) -> bool
     requires { ⌜ Inside (length (now mem)) p width height × Inside (length (now other)) q «src_w» «src_h» ⌝ }
     ensures { λ r. ⌜ r ≡ marks (blitNumbers width height area from «src_w» «src_h») ⌝ }
-    ensures bytes { λ _. ⌜ now (mem .exit) ≡ blitInto p width height area from (tableOf rop) (pat .0) (part (now (other .entry)) q (size «src_w» «src_h»)) «src_w» «src_h» (now (mem .entry)) ⌝ }
+    ensures bytes { λ _. ⌜ now (mem .exit) ≡ blitInto p width height area from (tableOf rop) (pat .0) (now (other .entry)) q «src_w» «src_h» (now (mem .entry)) ⌝ }
 {
     let n = 2 * ((width * height) as usize);
     let k = 2 * ((src_w * src_h) as usize);
@@ -96,7 +94,7 @@ fn blit_inside(
     requires { ⌜ Inside (length (now mem)) p width height × Inside (length (now mem)) q «src_w» «src_h» ⌝ }
     requires { ⌜ SameOrApart p width height q «src_w» «src_h» ⌝ }
     ensures { λ r. ⌜ r ≡ marks (blitNumbers width height area from «src_w» «src_h») ⌝ }
-    ensures bytes { λ _. ⌜ now (mem .exit) ≡ blitInto p width height area from (tableOf rop) (pat .0) (part (now (mem .entry)) q (size «src_w» «src_h»)) «src_w» «src_h» (now (mem .entry)) ⌝ }
+    ensures bytes { λ _. ⌜ now (mem .exit) ≡ blitInto p width height area from (tableOf rop) (pat .0) (now (mem .entry)) q «src_w» «src_h» (now (mem .entry)) ⌝ }
 {
     let b = blit_numbers(width, height, area, from, src_w, src_h);
     blit_within::blit_within(mem, p / 2, q / 2, b, rop, pat)
