@@ -11,7 +11,7 @@ pub fn read_input(s: &mut [u8; LONGEST + 1]) -> usize
     io::read_full(libc::STDIN_FILENO, s)
 }
 
-// Fills a memory with bytes that rise by `step` from `first` on and wrap around after 251; with step 0 all are `first`.
+// Fills a memory with bytes that begin at `first` and rise by `step`, and begin again every 251 bytes; with step 0 all are `first`.
 pub fn fill(mem: &mut [u8], first: u8, step: u8) {
     for k in 0..mem.len() {
         mem[k] = ((first as usize + (step as usize) * (k % 251)) % 256) as u8;
