@@ -33,6 +33,8 @@ usage:
   compare sample-calls STDIN STDOUT write the fixed call script and the original's lines to files
   compare calls PROGRAM COUNT SEED  compare COUNT random call scripts with a program
   compare handles PROGRAM           compare the call script that goes past the stock handles
+  compare line-script SEED          write a random call script of lines to standard output
+  compare lines PROGRAM COUNT SEED  compare random call scripts with COUNT lines with a program
   compare pictures PROGRAM COUNT SEED
                                     compare the final panels of COUNT random call scripts with a program
   compare records STDIN STDOUT COUNT SEED
@@ -59,7 +61,8 @@ fn main() -> ExitCode {
 fn command(arguments: &[&str]) -> Result<bool, String> {
     match arguments {
         ["call-script" | "call-answers" | "call-picture" | "script", ..]
-        | ["sample-calls" | "calls" | "handles" | "pictures", ..] => calls_command(arguments),
+        | ["sample-calls" | "calls" | "handles" | "pictures", ..]
+        | ["line-script" | "lines", ..] => calls_command(arguments),
         ["records" | "record-answers" | "records-run", ..] => records_command(arguments),
         ["ppm", program, count, seed] => ppm::run(program, number(count)?, number(seed)?),
         _ => primitives_command(arguments),
@@ -69,6 +72,7 @@ fn command(arguments: &[&str]) -> Result<bool, String> {
 fn calls_command(arguments: &[&str]) -> Result<bool, String> {
     match arguments {
         ["call-script", seed] => print(&calls::script(number(seed)?))?,
+        ["line-script", seed] => print(&calls::line_script(number(seed)?))?,
         ["call-answers"] => print(calls::answers(&input()?)?.as_bytes())?,
         ["call-picture"] => print(&calls::picture(&input()?)?)?,
         ["script", text] => {
@@ -85,6 +89,9 @@ fn calls_command(arguments: &[&str]) -> Result<bool, String> {
             return calls::run(program, number(count)?, number(seed)?);
         }
         ["handles", program] => return calls::run_handles(program),
+        ["lines", program, count, seed] => {
+            return calls::run_lines(program, number(count)?, number(seed)?);
+        }
         ["pictures", program, count, seed] => {
             return calls::run_pictures(program, number(count)?, number(seed)?);
         }

@@ -25,11 +25,13 @@
 extern "C" {
 #endif
 
-/* A record: 9 numbers of the device, 12 of the screen DC, and 14 for each of 256 slots. */
-#define RAVINEFORK_RECORD 3605
+/* A record: 9 numbers of the device, 14 of the screen DC, and 16 for each of 256 slots. */
+#define RAVINEFORK_RECORD 4119
 #define RAVINEFORK_MAX_OBJECTS 256
 #define RAVINEFORK_MAX_SIDE 4096
 #define RAVINEFORK_MAX_MEMORY 33554432
+#define RAVINEFORK_MIN_POSITION (-32768)
+#define RAVINEFORK_MAX_POSITION 32767
 
 /* The device's numbers. */
 #define RAVINEFORK_PANEL_LEN 0
@@ -42,19 +44,23 @@ extern "C" {
 #define RAVINEFORK_STOCK_DIRTY 7
 #define RAVINEFORK_COUNT 8
 
-/* Where the screen DC begins, and slot i: a handle, a kind and the object's 12 numbers. */
+/* Where the screen DC begins, and slot i: a handle, a kind and the object's 14 numbers. */
 #define RAVINEFORK_SCREEN 9
-#define RAVINEFORK_SLOT(i) (21 + 14 * (size_t)(i))
+#define RAVINEFORK_SLOT(i) (23 + 16 * (size_t)(i))
 
 /* Kinds. A DC's numbers are surface (0 screen, 1 memory), bitmap present (0 or 1), bitmap, brush, pen, font, brush colour, pen
-   colour, text colour, alignment, background colour, transparent (0 or 1). A bitmap's are width, height and dirty (0 or 1); a
-   brush's its colour; a pen's colour and width; a font's its height in two's complement. The others are 0. */
+   colour, text colour, alignment, background colour, transparent (0 or 1), position x and y in two's complement. A bitmap's are
+   width, height and dirty (0 or 1); a brush's its colour; a pen's colour and width; a font's its height in two's complement. The
+   others are 0. */
 #define RAVINEFORK_KIND_DC 0
 #define RAVINEFORK_KIND_BITMAP 1
 #define RAVINEFORK_KIND_BRUSH 2
 #define RAVINEFORK_KIND_PEN 3
 #define RAVINEFORK_KIND_FONT 4
 #define RAVINEFORK_NO_OBJECT 5
+/* Where a DC's position stands among its numbers. */
+#define RAVINEFORK_DC_X 12
+#define RAVINEFORK_DC_Y 13
 
 /* Handles. */
 #define RAVINEFORK_GDI_HANDLE_BASE 0xDEAD1000u
@@ -90,8 +96,10 @@ extern "C" {
 #define RAVINEFORK_PANEL_FILL 16              /* a RGB565 word */
 #define RAVINEFORK_RESIZE 17                  /* a width, b height */
 #define RAVINEFORK_BLIT 18                    /* dc, x, y, w, h, src source DC, src_x, src_y, a raster code */
+#define RAVINEFORK_MOVE_TO 19                 /* dc, x, y */
+#define RAVINEFORK_LINE_TO 20                 /* dc, x, y */
 
-/* Refusals, each number once. 11 to 19 are kept for calls that are added later. */
+/* Refusals, each number once. 12 to 19 are kept for calls that are added later. */
 #define RAVINEFORK_NO_DC 1
 #define RAVINEFORK_NO_SURFACE 2
 #define RAVINEFORK_NO_SOURCE_DC 3
@@ -102,6 +110,7 @@ extern "C" {
 #define RAVINEFORK_LENGTH 8
 #define RAVINEFORK_UNSOUND_RECORD 9
 #define RAVINEFORK_TEXT_TOO_LONG 10
+#define RAVINEFORK_POSITION 11
 #define RAVINEFORK_NO_CALL 255
 
 /* A call. Fields that the call does not name are not read. */
@@ -120,13 +129,16 @@ typedef struct ravinefork_call {
 } ravinefork_call;
 
 /* An answer: the number of the refusal, 0 if the call is accepted; a handle, COLORREF, alignment or advance; a flag, 0 or 1; the
-   kind and 12 numbers of a removed object, RAVINEFORK_NO_OBJECT and zeros if there is none. */
+   old position that a move returns; the kind and 14 numbers of a removed object, RAVINEFORK_NO_OBJECT and zeros if there is
+   none. */
 typedef struct ravinefork_reply {
     uint32_t refusal;
     uint32_t value;
     uint32_t flag;
+    int32_t x;
+    int32_t y;
     uint32_t kind;
-    uint32_t fields[12];
+    uint32_t fields[14];
 } ravinefork_reply;
 
 /* Opens a device with a panel of these sides. Returns the number of the refusal, 0 if it is accepted.

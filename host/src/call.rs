@@ -38,3 +38,8 @@ pub const RESIZE: u32 = 17;
 /// Blits from `src_x`, `src_y` on `src` to the box `x`, `y`, `w`, `h` on `dc`,
 /// under the raster code `a`.
 pub const BLIT: u32 = 18;
+/// Moves the position of `dc` to `x`, `y`.
+pub const MOVE_TO: u32 = 19;
+/// Draws a line on `dc` from its position to `x`, `y`, and moves the position
+/// there.
+pub const LINE_TO: u32 = 20;

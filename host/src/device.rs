@@ -218,8 +218,7 @@ impl<M: AsRef<[u8]> + AsMut<[u8]>> Device<M> {
     /// Writes a text up to unit 0 or its end, in the text colour, without a
     /// background. Returns its advance, 6 for each unit. Refused with 1, 2 or 10.
     pub fn text_out(&mut self, dc: Handle, at: Point, units: &[u16]) -> Result<u32, Refusal> {
-        let area = Area { x: at.x, y: at.y, w: 0, h: 0 };
-        self.ask(on(call::TEXT, dc, area), units).map(|reply| reply.value)
+        self.ask(with_point(call::TEXT, dc, at), units).map(|reply| reply.value)
     }
 
     /// Fills the panel with one word.
@@ -249,6 +248,25 @@ impl<M: AsRef<[u8]> + AsMut<[u8]>> Device<M> {
         let call = on(call::BLIT, dc, area);
         self.draw(HostCall { src: src.0, a: rop, src_x: from.x, src_y: from.y, ..call })
     }
+
+    /// Moves a DC's position and returns the old one. Refused with 1 or 11.
+    pub fn move_to(&mut self, dc: Handle, to: Point) -> Result<Point, Refusal> {
+        let reply = self.ask(with_point(call::MOVE_TO, dc, to), &[])?;
+        Ok(Point { x: reply.x, y: reply.y })
+    }
+
+    /// Draws a line in the pen colour, one pixel thick, from a DC's position to a
+    /// point, without that point. The position is then this point, also if no pixel
+    /// of the line is on the surface. Refused with 1, 2 or 11; then the position
+    /// stays.
+    pub fn line_to(&mut self, dc: Handle, to: Point) -> Result<(), Refusal> {
+        self.draw(with_point(call::LINE_TO, dc, to))
+    }
+}
+
+/// A call on a DC that takes a point.
+fn with_point(call: u32, dc: Handle, Point { x, y }: Point) -> HostCall {
+    HostCall { call, dc: dc.0, x, y, ..HostCall::default() }
 }
 
 /// A drawing call on a DC.

@@ -1,6 +1,8 @@
 //! The static library's functions. They take a slice as a pointer and a length,
 //! and require nothing else of their caller than that these are a slice's.
 
+use crate::DC;
+
 /// A call as numbers. [`crate::call`] has the number of each call and the fields
 /// that it reads; it does not read the others.
 #[repr(C)]
@@ -17,9 +19,9 @@ pub struct HostCall {
     pub a: u32,
     /// A height, or a pen's width.
     pub b: u32,
-    /// The left column.
+    /// The left column, or the column of a position.
     pub x: i32,
-    /// The top row.
+    /// The top row, or the row of a position.
     pub y: i32,
     /// The width of the box that is drawn.
     pub w: i32,
@@ -42,11 +44,15 @@ pub struct Reply {
     pub value: u32,
     /// Whether there was an object to delete, or the old background mode: 0 or 1.
     pub flag: u32,
+    /// The column of the old position, if the call is a move; else 0.
+    pub x: i32,
+    /// The row of the old position, if the call is a move; else 0.
+    pub y: i32,
     /// The kind of a removed object, as in a record; [`crate::NO_OBJECT`] if there
     /// is none.
     pub kind: u32,
     /// The numbers of a removed object, as in a record.
-    pub fields: [u32; 12],
+    pub fields: [u32; DC],
 }
 
 #[rustfmt::skip]

@@ -2,7 +2,7 @@
 //! operations and the RGB565 panel, in the static library that `rt staticlib
 //! host` writes.
 //!
-//! A [`Device`] holds a [`Record`], 3,605 numbers, with a panel memory and a pixel
+//! A [`Device`] holds a [`Record`], 4,119 numbers, with a panel memory and a pixel
 //! store, and has a method for each call, with the original's name. A host that
 //! keeps its own memories lends them to [`Record::perform`] instead. A call that
 //! cannot be served is refused with a number, a [`Refusal`], and changes nothing.
@@ -61,11 +61,15 @@ pub const SCREEN: usize = 9;
 /// Where the first slot's numbers begin in a record.
 pub const SLOTS: usize = SCREEN + DC;
 /// How many numbers a DC or another object has.
-pub const DC: usize = 12;
+pub const DC: usize = 14;
 /// How many numbers a slot has: a handle, a kind, and those of the object.
 pub const SLOT: usize = 2 + DC;
 /// The most created objects that a record can hold.
 pub const MAX_OBJECTS: usize = 256;
+/// The least coordinate of a position.
+pub const MIN_POSITION: i32 = -32_768;
+/// The greatest coordinate of a position.
+pub const MAX_POSITION: i32 = 32_767;
 /// The kind in a reply without an object.
 pub const NO_OBJECT: u32 = 5;
 /// The longest side.

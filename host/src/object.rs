@@ -3,6 +3,8 @@
 
 use std::fmt;
 
+use crate::DC;
+
 /// The handle of a DC or another object, created or stock. No object has 0.
 #[derive(Clone, Copy, Debug, Default, PartialEq, Eq, Hash, PartialOrd, Ord)]
 pub struct Handle(pub u32);
@@ -106,6 +108,8 @@ pub struct Dc {
     pub bk_color: Colorref,
     /// The background mode; it has no effect on drawing.
     pub bk_transparent: bool,
+    /// The current position, from which the next line is drawn.
+    pub position: Point,
 }
 
 /// A bitmap's record; its pixels are in the store.
@@ -131,7 +135,7 @@ pub struct Brush {
 pub struct Pen {
     /// Its colour.
     pub color: Colorref,
-    /// Its width. It has no effect: outlines are one pixel thick.
+    /// Its width. It has no effect: outlines and lines are one pixel thick.
     pub width: u32,
 }
 
@@ -168,9 +172,9 @@ pub struct Slot {
 
 impl Dc {
     /// The DC with these numbers.
-    pub(crate) fn of(numbers: &[u32; 12]) -> Dc {
+    pub(crate) fn of(numbers: &[u32; DC]) -> Dc {
         let &[surface, present, bitmap, brush, pen, font, colors @ ..] = numbers;
-        let [brush_color, pen_color, text_color, text_align, bk_color, transparent] = colors;
+        let [brush_color, pen_color, text_color, text_align, bk_color, transparent, x, y] = colors;
         Dc {
             surface: if surface == 1 { DcSurface::Memory } else { DcSurface::Screen },
             selected_bitmap: (present == 1).then_some(Handle(bitmap)),
@@ -183,13 +187,14 @@ impl Dc {
             text_align,
             bk_color: Colorref(bk_color),
             bk_transparent: transparent == 1,
+            position: Point { x: x as i32, y: y as i32 },
         }
     }
 }
 
 impl GdiObject {
     /// The object of this kind with these numbers; none for an unknown kind.
-    pub(crate) fn of(kind: u32, numbers: &[u32; 12]) -> Option<GdiObject> {
+    pub(crate) fn of(kind: u32, numbers: &[u32; DC]) -> Option<GdiObject> {
         let &[first, second, third, ..] = numbers;
         let color = Colorref(first);
         Some(match kind {

@@ -55,7 +55,10 @@ refusals! {
     UNSOUND_RECORD = 9: "the record is unsound";
     /// A text has over 65,535 units before unit 0 or its end.
     TEXT_TOO_LONG = 10: "a text has over 65,535 units";
-    // 11 to 19 are kept for calls that are added later.
+    /// A position is outside [`MIN_POSITION`](crate::MIN_POSITION) to
+    /// [`MAX_POSITION`](crate::MAX_POSITION).
+    POSITION = 11: "a position is outside -32,768 to 32,767";
+    // 12 to 19 are kept for calls that are added later.
     /// The numbers are no call.
     NO_CALL = 255: "no such call";
 }

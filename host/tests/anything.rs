@@ -5,7 +5,7 @@
 mod random;
 
 use random::Random;
-use ravinefork::{call, Colorref, Device, HostCall, Record, Refusal};
+use ravinefork::{call, Colorref, Device, HostCall, Record, Refusal, SCREEN, SLOT, SLOTS};
 
 /// Rounds, and calls on each record.
 const ROUNDS: u32 = 400;
@@ -60,6 +60,7 @@ fn is_guarded(memory: &[u8]) -> bool {
 fn any_numbers() {
     let mut random = Random::new(1);
     let mut counts = std::collections::BTreeMap::new();
+    let mut positioned = [0; 2];
     for _ in 0..ROUNDS {
         let (mut record, panel, store) = device(&mut random).expect("a device");
         let (mut panel, mut store) = (guarded(&panel), guarded(&store));
@@ -67,8 +68,8 @@ fn any_numbers() {
             let mut numbers = record.as_numbers().to_vec();
             if random.below(4) == 0 {
                 for _ in 0..=random.below(2) {
-                    let at = random.of(&[9, 21, 35, 120]);
-                    numbers[random.below(at) as usize] = random.number();
+                    let end = random.of(&[SCREEN, SLOTS, SLOTS + SLOT, SLOTS + 7 * SLOT]);
+                    numbers[random.below(end as u32) as usize] = random.number();
                 }
             }
             let units: Vec<u16> = (0..random.below(9)).map(|_| random.below(160) as u16).collect();
@@ -78,6 +79,10 @@ fn any_numbers() {
             let (lent_panel, lent_store) = (inner(&mut panel), inner(&mut store));
             let reply = after.perform(&host, &units, lent_panel, lent_store);
             *counts.entry(reply.refusal).or_insert(0) += 1;
+            let at = [call::MOVE_TO, call::LINE_TO].iter().position(|&call| call == host.call);
+            if let (0, Some(at)) = (reply.refusal, at) {
+                positioned[at] += 1;
+            }
             assert!(is_guarded(&panel) && is_guarded(&store), "{host:?}");
             if reply.refusal != 0 {
                 assert!(after.as_numbers() == numbers, "{host:?}, {reply:?}");
@@ -93,6 +98,7 @@ fn any_numbers() {
         }
     }
     println!("{counts:?}");
-    let all = [0, 1, 2, 3, 4, 6, 7, 8, 9, 255];
+    let all = [0, 1, 2, 3, 4, 6, 7, 8, 9, 11, 255];
     assert!(all.iter().all(|number| counts.contains_key(number)), "{counts:?}");
+    assert!(positioned.iter().all(|&accepted| accepted > 100), "moves and lines: {positioned:?}");
 }

@@ -43,11 +43,21 @@ int main(void) {
     ravinefork_call blit = {.call = RAVINEFORK_BLIT, .dc = screen, .src = screen, .a = 0x00CC0020, .x = -1, .y = 12};
     blit.w = 9, blit.h = 9, blit.src_x = 3, blit.src_y = 4;
     accepted(blit, NULL, 0);
+    ravinefork_call move = {.call = RAVINEFORK_MOVE_TO, .dc = screen, .x = 21, .y = -2};
+    ravinefork_reply old_position = accepted(move, NULL, 0);
+    printf("old position %d %d\n", (int)old_position.x, (int)old_position.y);
+    accepted((ravinefork_call){.call = RAVINEFORK_LINE_TO, .dc = screen, .x = 9, .y = 20}, NULL, 0);
+    const uint32_t *position = numbers + RAVINEFORK_SCREEN + RAVINEFORK_DC_X;
+    printf("position %d %d\n", (int)(int32_t)position[0], (int)(int32_t)position[1]);
+    old_position = accepted(move, NULL, 0);
+    printf("old position %d %d\n", (int)old_position.x, (int)old_position.y);
+    move.y = RAVINEFORK_MIN_POSITION - 1;
+    printf("no position %u\n", (unsigned)perform(move, NULL, 0).refusal);
 
     ravinefork_reply removed = accepted((ravinefork_call){.call = RAVINEFORK_REMOVE, .a = pen}, NULL, 0);
     printf("removed %u: %08x %u\n", (unsigned)removed.kind, (unsigned)removed.fields[0], (unsigned)removed.fields[1]);
     printf("no DC %u\n", (unsigned)perform((ravinefork_call){.call = RAVINEFORK_RECTANGLE}, NULL, 0).refusal);
-    printf("no call %u\n", (unsigned)perform((ravinefork_call){.call = 19}, NULL, 0).refusal);
+    printf("no call %u\n", (unsigned)perform((ravinefork_call){.call = 21}, NULL, 0).refusal);
     printf("no text %u\n", (unsigned)accepted(text, NULL, 0).value);
     printf("no memory %u\n",
            (unsigned)ravinefork_perform(numbers, RAVINEFORK_RECORD, text, NULL, 0, NULL, 0, NULL, 0).refusal);

@@ -4,7 +4,9 @@
 use pocket_kernel::font;
 use pocket_kernel::framebuffer::Framebuffer;
 use pocket_kernel::gdi::{self, GdiState, Surface};
-use ravinefork::{rop3, Area, Bitmap, Colorref, Device, GdiObject, Handle, Pen, Point, Rgb565};
+use ravinefork::{
+    rop3, Area, Bitmap, Colorref, Device, GdiObject, Handle, Pen, Point, Refusal, Rgb565,
+};
 
 const SCREEN_DC: Handle = Handle::GDI_SCREEN_DC;
 const ONE: Area = Area { x: 0, y: 0, w: 1, h: 1 };
@@ -103,6 +105,18 @@ fn an_outline_is_one_pixel_thick_whatever_the_pen_s_width() {
     assert_eq!(pixel(ours.panel(), 3, 1, 1), 0xFFFF);
     let width = Pen { color: Colorref(0), width: 3 };
     assert_eq!(ours.get(pen), Some(GdiObject::Pen(width)));
+}
+
+#[test]
+fn a_line_is_one_pixel_thick_and_its_tie_rounds_away_from_the_start() {
+    let (mut ours, _) = white(3, 3);
+    let pen = ours.create_pen(Colorref(0), 3).expect("a pen");
+    ours.select_into(SCREEN_DC, pen).expect("a selection");
+    ours.line_to(SCREEN_DC, Point { x: 2, y: 1 }).expect("a line");
+    let black: Vec<_> = (0..9).filter(|at| pixel(ours.panel(), 3, at % 3, at / 3) == 0).collect();
+    assert_eq!(black, [0, 4], "(0, 0) and (1, 1)");
+    let refused = ours.move_to(SCREEN_DC, Point { x: 32_768, y: 0 });
+    assert_eq!(refused, Err(Refusal::POSITION));
 }
 
 #[test]

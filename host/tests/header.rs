@@ -9,7 +9,7 @@ use std::process::Command;
 
 use ravinefork::{
     call, rop3, Area, Colorref, Device, Handle, HostCall, Point, Refusal, Reply, MAX_MEMORY,
-    MAX_OBJECTS, MAX_SIDE, NO_OBJECT, RECORD, SCREEN, SLOTS,
+    MAX_OBJECTS, MAX_POSITION, MAX_SIDE, MIN_POSITION, NO_OBJECT, RECORD, SCREEN, SLOT, SLOTS,
 };
 
 const FOLDER: &str = env!("CARGO_MANIFEST_DIR");
@@ -27,7 +27,7 @@ fn layout() -> String {
         };
     }
     layout!(ravinefork_call HostCall: call dc src a b x y w h src_x src_y);
-    layout!(ravinefork_reply Reply: refusal value flag kind fields);
+    layout!(ravinefork_reply Reply: refusal value flag x y kind fields);
     macro_rules! numbers {
         ($($name:ident $number:expr),* $(,)?) => {
             $(asserts += &format!(
@@ -46,16 +46,21 @@ fn layout() -> String {
     }
     numbers!(RECORD RECORD, SCREEN SCREEN, MAX_OBJECTS MAX_OBJECTS, MAX_SIDE MAX_SIDE);
     numbers!(MAX_MEMORY MAX_MEMORY, NO_OBJECT NO_OBJECT);
-    asserts += &format!(" _Static_assert(RAVINEFORK_SLOT(0) == {SLOTS}, \"\");");
+    for (i, slot) in [SLOTS, SLOTS + SLOT].into_iter().enumerate() {
+        asserts += &format!(" _Static_assert(RAVINEFORK_SLOT({i}) == {slot}, \"\");");
+    }
+    for (name, end) in [("MIN", MIN_POSITION), ("MAX", MAX_POSITION)] {
+        asserts += &format!(" _Static_assert(RAVINEFORK_{name}_POSITION == {end}, \"\");");
+    }
     calls!(CREATE_MEMORY_DC CREATE_COMPATIBLE_BITMAP CREATE_SOLID_BRUSH CREATE_PEN CREATE_FONT);
     calls!(DELETE REMOVE SELECT_INTO SET_TEXT_COLOR SET_TEXT_ALIGN SET_BK_COLOR SET_BK_MODE);
-    calls!(PATTERN_FILL RECTANGLE TEXT PANEL_FILL RESIZE BLIT);
+    calls!(PATTERN_FILL RECTANGLE TEXT PANEL_FILL RESIZE BLIT MOVE_TO LINE_TO);
     handles!(GDI_HANDLE_BASE GDI_SCREEN_DC STOCK_WHITE_BRUSH STOCK_LTGRAY_BRUSH);
     handles!(STOCK_GRAY_BRUSH STOCK_BLACK_BRUSH STOCK_NULL_BRUSH STOCK_WHITE_PEN);
     handles!(STOCK_BLACK_PEN STOCK_NULL_PEN STOCK_DKGRAY_BRUSH STOCK_SYSTEM_FONT);
     handles!(STOCK_DEFAULT_BITMAP);
     refusals!(NO_DC NO_SURFACE NO_SOURCE_DC NO_SOURCE_SURFACE TOO_MANY_OBJECTS SIDE);
-    refusals!(TOO_SHORT LENGTH UNSOUND_RECORD TEXT_TOO_LONG NO_CALL);
+    refusals!(TOO_SHORT LENGTH UNSOUND_RECORD TEXT_TOO_LONG POSITION NO_CALL);
     asserts
 }
 
@@ -111,6 +116,8 @@ fn picture() -> Result<String, Refusal> {
     device.text_out(screen, Point { x: 4, y: 4 }, &[0x43, 0x31, 0x31])?;
     let area = Area { x: -1, y: 12, w: 9, h: 9 };
     device.blit(screen, area, screen, Point { x: 3, y: 4 }, rop3::SRCCOPY)?;
+    device.move_to(screen, Point { x: 21, y: -2 })?;
+    device.line_to(screen, Point { x: 9, y: 20 })?;
     let rows = device.panel_pixels().chunks_exact(48).map(|row| {
         let pixels = row.chunks_exact(2).map(|pair| match [pair[0], pair[1]] {
             [0xFF, 0xFF] => '.',
@@ -140,7 +147,8 @@ fn the_header_names_each_refusal_once() {
 fn a_host_in_c() {
     let Some(program) = compiled("device", "device", &define(&layout())) else { return };
     let lines = "open 9\nopen 0\npen dead1000\nbefore it dead5707\nadvance 18\n\
-                 removed 3: 000000ff 3\nno DC 1\nno call 255\nno text 0\nno memory 8\nno record 9\nframes 4\n";
+                 old position 0 0\nposition 9 20\nold position 9 20\nno position 11\n\
+                 removed 3: 000000ff 3\nno DC 1\nno call 255\nno text 0\nno memory 8\nno record 9\nframes 5\n";
     let picture = picture().expect("a picture");
     println!("{picture}");
     assert_eq!(output_of(program), format!("{lines}{picture}"));

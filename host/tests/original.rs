@@ -1,4 +1,6 @@
-//! Random call scripts print the same lines as the original. `SCRIPTS=3000 cargo test --offline --test original` compares more.
+//! Random call scripts print the same lines as the original, and scripts with lines
+//! and moves the same as the comparison's own rule. `SCRIPTS=3000 cargo test
+//! --offline --test original` compares more.
 
 mod script;
 
@@ -37,11 +39,13 @@ fn run(arguments: &[&str], input: &[u8]) -> Output {
     program.wait_with_output().expect("its output")
 }
 
-#[test]
-fn random_scripts() {
-    let (scripts, mut all, mut dropped) = (scripts(), 0, 0);
+/// Compares this many scripts that the command makes, each from the next seed.
+fn compare_scripts(command: &str, scripts: u64) {
+    let (mut all, mut dropped) = (0, 0);
     for seed in 1..=scripts {
-        let script = run(&["call-script", &seed.to_string()], &[]).stdout;
+        let made = run(&[command, &seed.to_string()], &[]);
+        assert!(made.status.success(), "{command}: {}", String::from_utf8_lossy(&made.stderr));
+        let script = made.stdout;
         let answers = run(&["call-answers"], &script);
         if !answers.status.success() {
             let message = String::from_utf8_lossy(&answers.stderr);
@@ -51,9 +55,19 @@ fn random_scripts() {
         }
         let lines = String::from_utf8(answers.stdout).expect("lines");
         let (ours, calls) = printed(&script);
-        assert_lines(&ours, &lines, &format!("seed {seed}"));
+        assert_lines(&ours, &lines, &format!("{command}, seed {seed}"));
         all += calls;
     }
     println!("{all} calls of {} scripts, {dropped} dropped", scripts - dropped);
     assert!(dropped < scripts / 2 && all as u64 > 80 * scripts);
+}
+
+#[test]
+fn random_scripts() {
+    compare_scripts("call-script", scripts());
+}
+
+#[test]
+fn random_lines() {
+    compare_scripts("line-script", scripts().div_ceil(4));
 }

@@ -40,7 +40,7 @@ impl Stream<'_> {
         slot[0] = self.word();
         slot[1] = self.number(1) as u32;
         let bytes: &[usize] = match slot[1] {
-            0 => &[1, 1, 4, 4, 4, 4, 4, 4, 4, 4, 4, 1],
+            0 => &[1, 1, 4, 4, 4, 4, 4, 4, 4, 4, 4, 1, 4, 4],
             1 => &[4, 4, 1],
             3 => &[4, 4],
             _ => &[4],
@@ -61,14 +61,15 @@ impl Stream<'_> {
         let sides = [self.word(), self.word()];
         let frames = self.number(8);
         let (next, stock) = (self.word(), self.number(1) as u32);
-        let (surface, count) = (self.number(1) as u32, self.wide());
+        let screen = screen(self.number(1) as u32, [self.word(), self.word()]);
+        let count = self.wide();
         let slots: Vec<_> = (0..self.number(2)).map(|_| self.slot()).collect();
         let lent = [self.word(), self.word()].map(|len| len as usize);
         let numbers = (|| {
             let frames = [frames as u32, (frames >> 32) as u32];
             let mut numbers = vec![lengths[0]?, lengths[1]?, sides[0], sides[1]];
             numbers.extend([frames[0], frames[1], next, stock, count?]);
-            numbers.extend(screen(surface));
+            numbers.extend(screen);
             numbers.extend(slots.concat());
             // Vacant slots: handle 0, a brush of colour 0.
             let vacant = (0..SLOT).map(|i| if i == 1 { 2 } else { 0 }).cycle();
@@ -79,13 +80,14 @@ impl Stream<'_> {
     }
 }
 
-/// The screen DC of a fresh device, with this surface.
-fn screen(surface: u32) -> [u32; DC] {
+/// The screen DC of a fresh device, with this surface and position.
+fn screen(surface: u32, position: [u32; 2]) -> [u32; DC] {
     let mut record = Record::new();
     record.open(1, 1, &mut [0; 2], &mut [0; 2]).expect("a device");
     let mut screen: [u32; DC] =
         record.as_numbers()[SCREEN..SLOTS].try_into().expect("the numbers of a DC");
     screen[0] = surface;
+    screen[12..].copy_from_slice(&position);
     screen
 }
 
@@ -98,7 +100,7 @@ fn blackens(call: u32) -> bool {
 fn the_sample() {
     let bytes = fs::read(format!("{FOLDER}/stdin")).expect("the records");
     let lines = fs::read_to_string(format!("{FOLDER}/stdout")).expect("their lines");
-    let mut stream = Stream(bytes.strip_prefix(b"REC1").expect("records"));
+    let mut stream = Stream(bytes.strip_prefix(b"REC2").expect("records"));
     let (mut tried, mut wide, mut memory_screens) = (0, 0, 0);
     for (i, line) in lines.lines().enumerate() {
         let (numbers, [panel_len, store_len]) = stream.record();
@@ -109,7 +111,7 @@ fn the_sample() {
             continue;
         };
         let memories = [vec![0x5A; panel_len], vec![0xA5; store_len]];
-        for call in call::CREATE_MEMORY_DC..=call::BLIT {
+        for call in call::CREATE_MEMORY_DC..=call::LINE_TO {
             let dc = Handle::GDI_SCREEN_DC.0;
             let call =
                 HostCall { call, dc, src: dc, a: 1, b: 1, w: 9, h: 9, ..HostCall::default() };

@@ -5,12 +5,15 @@
 use pocket_kernel::gdi::{self, GdiState};
 use ravinefork::{
     call, rop3, Area, Bitmap, Brush, Colorref, Dc, DcSurface, Device, Font, GdiObject, Handle,
-    HostCall, Pen, Point, Record, Refusal, Reply, Rgb565, Slot, MAX_MEMORY, RECORD, SLOT, SLOTS,
+    HostCall, Pen, Point, Record, Refusal, Reply, Rgb565, Slot, DC, MAX_MEMORY, RECORD, SCREEN,
+    SLOT, SLOTS,
 };
 
 const SCREEN_DC: Handle = Handle::GDI_SCREEN_DC;
 const AREA: Area = Area { x: 0, y: 0, w: 2, h: 2 };
 const AT: Point = Point { x: 0, y: 0 };
+/// A point that no position can be.
+const FAR: Point = Point { x: 32_768, y: 0 };
 
 /// A device with a panel of 4 by 3 in 30 bytes, a store of 64 bytes, and an object
 /// of each kind: a DC with a bitmap, a brush, a pen and a font.
@@ -32,11 +35,11 @@ fn device() -> (Device, [Handle; 5]) {
 fn calls() -> Vec<HostCall> {
     let dc = SCREEN_DC.0;
     let of = |call| HostCall { call, dc, src: dc, a: 1, b: 1, w: 2, h: 2, ..HostCall::default() };
-    (call::CREATE_MEMORY_DC..=call::BLIT).map(of).collect()
+    (call::CREATE_MEMORY_DC..=call::LINE_TO).map(of).collect()
 }
 
 fn refused(number: u32) -> Reply {
-    Reply { refusal: number, value: 0, flag: 0, kind: 5, fields: [0; 12] }
+    Reply { refusal: number, value: 0, flag: 0, x: 0, y: 0, kind: 5, fields: [0; DC] }
 }
 
 /// Asserts that every call on these numbers is refused with this number and
@@ -74,7 +77,7 @@ fn numbers_that_are_no_record() {
         all_refused(&numbers, number, of);
         read_all(&Record::from_numbers(numbers));
     };
-    for len in [0, 1, 8, 20, 21, RECORD - 1] {
+    for len in [0, 1, 8, SLOTS - 1, SLOTS, RECORD - 1] {
         all_refused(&good[..len], 9, "too few numbers");
         read_all(&Record::from_numbers(&good[..len]));
     }
@@ -100,7 +103,7 @@ fn numbers_that_are_no_record() {
     }
     // Each number past the fields of a bitmap, a brush, a pen and a font.
     for (slot, fields) in [(1, 3), (2, 1), (3, 2), (4, 1)] {
-        for past in fields..12 {
+        for past in fields..DC {
             wrong(&[(SLOTS + SLOT * slot + 2 + past, 1)], 9, "a number past the fields");
         }
     }
@@ -134,6 +137,7 @@ fn records_that_are_unsound() {
         all_refused(&numbers, 9, of);
         read_all(&Record::from_numbers(numbers));
     }
+    positions_that_are_unsound(&good);
     all_refused(&vec![0; RECORD], 9, "zeros");
     all_refused(&vec![u32::MAX; RECORD], 9, "ones");
     read_all(&Record::from_numbers(vec![u32::MAX; RECORD]));
@@ -146,11 +150,35 @@ fn records_that_are_unsound() {
     assert_eq!(record.count(), 6);
 }
 
+/// Positions of the screen DC and of a created DC, each coordinate out of range at
+/// each end, refuse every call and the snapshots. Those at the ends do not.
+fn positions_that_are_unsound(good: &[u32]) {
+    let places = [(SCREEN, "the screen DC's position"), (SLOTS + 2, "a DC's position")];
+    for (at, of) in places.into_iter().flat_map(|(dc, of)| [(dc + 12, of), (dc + 13, of)]) {
+        for coordinate in [-32_769, 32_768, 0x1_0000, i32::MIN, i32::MAX] {
+            let mut numbers = good.to_vec();
+            numbers[at] = coordinate as u32;
+            all_refused(&numbers, 9, of);
+            let record = Record::from_numbers(numbers);
+            read_all(&record);
+            let snapshot = record.snapshot_rgba8888_into(&[0; 30], &mut [0; 48]);
+            assert_eq!(snapshot, Err(Refusal::UNSOUND_RECORD), "{of}");
+        }
+        for coordinate in [-32_768, -1, 32_767] {
+            let mut numbers = good.to_vec();
+            numbers[at] = coordinate as u32;
+            let mut record = Record::from_numbers(numbers);
+            let reply = record.perform(&calls()[0], &[], &mut [0; 30], &mut [0; 64]);
+            assert_eq!(reply.refusal, 0, "{of} {coordinate}");
+        }
+    }
+}
+
 #[test]
 fn numbers_that_are_no_call() {
     let (device, _) = device();
     let of = |call, a| HostCall { call, dc: SCREEN_DC.0, a, ..HostCall::default() };
-    let none = [of(0, 0), of(19, 0), of(255, 0), of(u32::MAX, 0), of(call::SET_BK_MODE, 2)];
+    let none = [of(0, 0), of(21, 0), of(255, 0), of(u32::MAX, 0), of(call::SET_BK_MODE, 2)];
     let more = [of(call::SET_BK_MODE, u32::MAX), of(call::PANEL_FILL, 0x1_0000)];
     for call in none.into_iter().chain(more).chain([of(call::PANEL_FILL, u32::MAX)]) {
         let mut after = device.clone();
@@ -259,12 +287,15 @@ fn each_refusal_of_a_call() {
         assert_eq!(device.rectangle(handle, AREA), Err(Refusal::NO_DC));
         assert_eq!(device.text_out(handle, AT, &[0x41]), Err(Refusal::NO_DC));
         assert_eq!(device.blit(handle, AREA, none, AT, rop3::SRCCOPY), Err(Refusal::NO_DC));
+        assert_eq!(device.move_to(handle, FAR), Err(Refusal::NO_DC));
+        assert_eq!(device.line_to(handle, FAR), Err(Refusal::NO_DC));
     }
     // 2: no surface.
     assert_eq!(device.pattern_fill(bare, AREA, rop3::PATCOPY), Err(Refusal::NO_SURFACE));
     assert_eq!(device.rectangle(bare, AREA), Err(Refusal::NO_SURFACE));
     assert_eq!(device.text_out(bare, AT, &[0x41; 65_536]), Err(Refusal::NO_SURFACE));
     assert_eq!(device.blit(bare, AREA, none, AT, rop3::SRCCOPY), Err(Refusal::NO_SURFACE));
+    assert_eq!(device.line_to(bare, FAR), Err(Refusal::NO_SURFACE));
     // 3 and 4: the same for the source, unless the code does not use it.
     let source = device.blit(dc, AREA, none, AT, rop3::SRCCOPY);
     assert_eq!(source, Err(Refusal::NO_SOURCE_DC));
@@ -277,6 +308,9 @@ fn each_refusal_of_a_call() {
     assert_eq!(device.create_compatible_bitmap(1, 17), Err(Refusal::TOO_SHORT));
     assert_eq!(device.resize(4097, 1), Err(Refusal::SIDE));
     assert_eq!(device.resize(4, 4), Err(Refusal::TOO_SHORT));
+    // 11: a position out of range.
+    assert_eq!(device.move_to(bare, FAR), Err(Refusal::POSITION));
+    assert_eq!(device.line_to(dc, FAR), Err(Refusal::POSITION));
     // 10: a text that is too long.
     assert_eq!(device.text_out(dc, AT, &[0x41; 65_536]), Err(Refusal::TEXT_TOO_LONG));
     // No refused call has changed anything.
@@ -327,6 +361,7 @@ fn removed_objects() {
     device.select_into(dc, pen).expect("a selection");
     device.select_into(dc, font).expect("a selection");
     device.rectangle(dc, AREA).expect("a rectangle");
+    device.line_to(dc, Point { x: -5, y: 32_767 }).expect("a line");
     let record = Dc {
         surface: DcSurface::Memory,
         selected_bitmap: Some(bitmap),
@@ -339,6 +374,7 @@ fn removed_objects() {
         text_align: 6,
         bk_color: Colorref(7),
         bk_transparent: true,
+        position: Point { x: -5, y: 32_767 },
     };
     let objects = [
         (dc, GdiObject::Dc(record)),
@@ -434,6 +470,8 @@ fn stock_objects_are_the_original_s() {
                     (theirs.text_color, theirs.text_align)
                 );
                 assert_eq!((dc.bk_color.0, dc.bk_transparent), (theirs.bk_color, false));
+                // The original has no positions.
+                assert_eq!(dc.position, Point { x: 0, y: 0 });
             }
             (gdi::GdiObject::Bitmap(theirs), GdiObject::Bitmap(bitmap)) => {
                 assert_eq!((bitmap.width, bitmap.height), (theirs.width, theirs.height));
@@ -472,8 +510,8 @@ fn refusals_tell_their_meaning() {
     assert_eq!(told(255).as_deref(), Some("refused with 255: no such call"));
     assert_eq!(told(20).as_deref(), Some("refused with 20: no refusal of this library"));
     let meanings: std::collections::BTreeSet<_> =
-        (1..=10).chain([255]).map(|number| Refusal::new(number)?.meaning()).collect();
-    assert!(meanings.len() == 11 && !meanings.contains(&None), "{meanings:?}");
+        (1..=11).chain([255]).map(|number| Refusal::new(number)?.meaning()).collect();
+    assert!(meanings.len() == 12 && !meanings.contains(&None), "{meanings:?}");
 }
 
 #[test]

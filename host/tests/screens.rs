@@ -61,11 +61,12 @@ fn bytes(random: &mut Random, count: usize) -> Vec<u8> {
     (0..count).map(|_| random.below(256) as u8).collect()
 }
 
-/// A random call; two in five create or select a bitmap.
+/// A random call; one in three creates or selects a bitmap, one in six draws a line
+/// on the panel or on the first DC.
 fn next_call(random: &mut Random) -> (HostCall, Vec<u16>) {
     let base = Handle::GDI_HANDLE_BASE.0;
     let mut host = random.call();
-    match random.below(5) {
+    match random.below(6) {
         0 => {
             host.call = call::CREATE_COMPATIBLE_BITMAP;
             (host.a, host.b) = (random.below(12), random.below(12));
@@ -73,6 +74,11 @@ fn next_call(random: &mut Random) -> (HostCall, Vec<u16>) {
         1 => {
             host.call = call::SELECT_INTO;
             (host.dc, host.a) = (base, base + random.below(9));
+        }
+        2 => {
+            host.call = call::LINE_TO;
+            host.dc = random.of(&[Handle::GDI_SCREEN_DC.0, base]);
+            [host.x, host.y] = [random.position(), random.position()];
         }
         _ => {}
     }
@@ -84,6 +90,7 @@ fn next_call(random: &mut Random) -> (HostCall, Vec<u16>) {
 fn whatever_the_memories_held() {
     let mut random = Random::new(16);
     let (mut opened, mut accepted, mut pictures, mut created) = (0, 0, 0, 0);
+    let (mut moves, mut lines) = (0, 0);
     for _ in 0..ROUNDS {
         let (width, height) = (random.below(30), 1 + random.below(30));
         let panel_len = (2 * width * height + random.below(40)) as usize;
@@ -98,6 +105,8 @@ fn whatever_the_memories_held() {
             let reply = one.perform(&host, &units);
             assert_eq!(reply, other.perform(&host, &units), "{host:?}");
             accepted += u32::from(reply.refusal == 0);
+            moves += u32::from(reply.refusal == 0 && host.call == call::MOVE_TO);
+            lines += u32::from(reply.refusal == 0 && host.call == call::LINE_TO);
             // The records are equal; the numbers past the last object may differ.
             assert_eq!(one.record, other.record, "{host:?}");
             // After a refused open there is no device, and so no pixel.
@@ -109,12 +118,13 @@ fn whatever_the_memories_held() {
         }
         created += one.bitmaps().len() - 1;
     }
-    println!("{opened} opened, {accepted} calls accepted, {pictures} pictures with a colour, {created} bitmaps");
+    println!("{opened} opened, {accepted} calls accepted, {pictures} pictures with a colour, {created} bitmaps, {moves} moves, {lines} lines");
     assert!(opened < ROUNDS && opened > ROUNDS / 2, "{opened}");
     assert!(
         accepted > ROUNDS * CALLS / 3 && pictures > ROUNDS * CALLS / 4 && created > 500,
         "{accepted}, {pictures}, {created}"
     );
+    assert!(moves > 100 && lines > 1000, "{moves}, {lines}");
 }
 
 #[test]

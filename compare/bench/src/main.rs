@@ -4,6 +4,7 @@
 //! must be equal.
 
 mod proved;
+mod timing;
 
 use std::hint::black_box;
 use std::time::Instant;
@@ -126,11 +127,6 @@ fn time(count: u32, mut part: impl FnMut() -> i32) -> f64 {
     start.elapsed().as_nanos() as f64 / f64::from(count)
 }
 
-fn median(mut times: Vec<f64>) -> f64 {
-    times.sort_by(f64::total_cmp);
-    times[times.len() / 2]
-}
-
 /// Both medians in nanoseconds.
 fn measure(row: &Row, rounds: u32) -> (f64, f64) {
     let mut scene = Scene::new(row.sides);
@@ -152,7 +148,7 @@ fn measure(row: &Row, rounds: u32) -> (f64, f64) {
         }
     }
     check(row);
-    let [ours, theirs] = times.map(median);
+    let [ours, theirs] = times.map(timing::median);
     (ours, theirs)
 }
 
@@ -167,11 +163,7 @@ fn check(row: &Row) {
 }
 
 fn main() {
-    let rounds = std::env::args().nth(1).map_or(Ok(101), |n| n.parse());
-    let Ok(rounds @ 1..) = rounds else {
-        eprintln!("bench [ROUNDS]");
-        std::process::exit(2);
-    };
+    let rounds = timing::rounds("bench");
     println!("| operation | proved, µs | original, µs | ratio | target |");
     println!("|---|---|---|---|---|");
     let mut over = Vec::new();
@@ -185,9 +177,6 @@ fn main() {
         let name = row.name;
         println!("| {name} | {:.3} | {:.3} | {ratio:.3} | {target} |", ours / 1e3, theirs / 1e3);
     }
-    let targets = match over.as_slice() {
-        [] => "all targets met".into(),
-        names => format!("over its target: {}", names.join(", ")),
-    };
+    let targets = timing::targets(&over);
     println!("{rounds} rounds, medians; pixels and answers equal; {targets}");
 }

@@ -30,6 +30,8 @@ table! {
             dc: u32, x: i32, y: i32, w: i32, h: i32,
             source: u32, sx: i32, sy: i32, code: u32
         }
+        0x13 "move" Move { dc: u32, x: i32, y: i32 }
+        0x14 "line" Line { dc: u32, x: i32, y: i32 }
     }
 }
 
@@ -66,7 +68,7 @@ impl Call {
 
 /// Whether the call with this byte draws, on a DC's surface or on the panel.
 pub fn is_drawing(byte: u8) -> bool {
-    byte >= 0x0D
+    matches!(byte, 0x0D..=0x12 | 0x14)
 }
 
 #[cfg(test)]
@@ -82,6 +84,10 @@ mod tests {
         assert_eq!(call.to_string(), "create pen, color 0x80ff01, width 7");
         assert_eq!(Call::CreateFont { height: -2 }.bytes(), [0x05, 0xFF, 0xFF, 0xFF, 0xFE]);
         assert_eq!(Call::CreateMemoryDc {}.bytes(), [0x01]);
+        let line = Call::Line { dc: 1, x: -32_768, y: 2 };
+        let bytes = [0x14, 0, 0, 0, 1, 0xFF, 0xFF, 0x80, 0, 0, 0, 0, 2];
+        assert_eq!(line.bytes(), bytes);
+        assert_eq!(Call::read(&mut bytes.as_slice()), Some(line));
         let text = Call::text(1, -1, 2, vec![0x41, 0xD800]);
         let bytes = [
             [0x0F, 0, 0, 0, 1, 0xFF, 0xFF, 0xFF, 0xFF].as_slice(),
@@ -96,7 +102,7 @@ mod tests {
         let mode = |transparent| Call::SetBkMode { dc: 0, transparent }.bytes();
         let fill = |word| Call::PanelFill { word }.bytes();
         let text = |count| Call::text(0, 0, 0, vec![0; count]).bytes();
-        let bad = [vec![], vec![0x00], vec![0x13], vec![0xFF], mode(2), mode(0x0100_0000)];
+        let bad = [vec![], vec![0x00], vec![0x15], vec![0xFF], mode(2), mode(0x0100_0000)];
         let long = [fill(0x0001_0000), fill(0x8000_0000), text(MAX_UNITS + 1)];
         for bytes in bad.into_iter().chain(long) {
             assert_eq!(Call::read(&mut bytes.as_slice()), None, "{bytes:?}");
@@ -105,7 +111,7 @@ mod tests {
             assert!(Call::read(&mut bytes.as_slice()).is_some());
         }
         let text = Call::text(1, 2, 3, vec![4, 5]);
-        for call in [Call::Delete { handle: 1 }, Call::Select { dc: 1, object: 2 }, text] {
+        for call in [Call::Delete { handle: 1 }, Call::Move { dc: 1, x: 2, y: 3 }, text] {
             let bytes = call.bytes();
             for len in 0..bytes.len() {
                 assert_eq!(Call::read(&mut &bytes[..len]), None);

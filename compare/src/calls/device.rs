@@ -1,5 +1,5 @@
 //! The device: the original's objects and panel, with what the original does not
-//! have: refusals and lent memories.
+//! have: refusals, lent memories and the positions of DCs.
 
 use std::mem::replace;
 
@@ -7,7 +7,9 @@ use pocket_kernel::framebuffer::Framebuffer;
 use pocket_kernel::gdi::{Bitmap, Dc, GdiState, GDI_SCREEN_DC, STOCK_DEFAULT_BITMAP};
 
 use super::call::Call;
+use super::form::Form;
 use super::line;
+use super::lines::{Point, Positions};
 use super::original::Original;
 use super::outcome::{Answer, Outcome, Stop};
 use super::paint::Place;
@@ -28,6 +30,9 @@ pub struct Device {
     /// valid here.
     pub(super) panel_memory: Vec<u8>,
     store: Vec<u8>,
+    pub(super) positions: Positions,
+    /// The form of the script, which decides whether positions are printed.
+    form: Form,
     /// Whether the present call has changed a pixel.
     pub(super) changed: bool,
     /// How many bitmaps deletions and removals have moved, and how many of them
@@ -62,10 +67,17 @@ impl Device {
             order: if refusal == 0 { vec![STOCK_DEFAULT_BITMAP] } else { Vec::new() },
             panel_memory: panel,
             store,
+            positions: Positions::new(),
+            form: Form::Gdi1,
             changed: false,
             moved: [0; 2],
         };
         (refusal, device)
+    }
+
+    /// The same device for a script of this form.
+    pub fn shown_as(self, form: Form) -> Device {
+        Device { form, ..self }
     }
 
     /// The length of the panel memory.
@@ -122,7 +134,10 @@ impl Device {
             | Call::CreatePen { .. }
             | Call::CreateFont { .. } => Answer::Number(self.create(call)?),
             Call::Delete { handle } => Answer::Flag(self.taken(|gdi| gdi.delete(handle))),
-            Call::Remove { handle } => Answer::Object(self.taken(|gdi| gdi.remove(handle))),
+            Call::Remove { handle } => {
+                let position = self.shown_position(handle);
+                Answer::Object(self.taken(|gdi| gdi.remove(handle)), position)
+            }
             Call::Select { dc, object } => {
                 Answer::Number(self.original.gdi.select_into(dc, object))
             }
@@ -138,6 +153,7 @@ impl Device {
             Call::SetBkMode { dc, transparent } => {
                 Answer::Flag(replace(&mut self.dc_mut(dc)?.bk_transparent, transparent == 1))
             }
+            Call::Move { dc, x, y } => Answer::Position(self.move_to(dc, Point { x, y })?),
             _ => self.draw(call)?,
         })
     }
@@ -169,7 +185,8 @@ impl Device {
         let used = self.used();
         let answer = take(&mut self.original.gdi);
         if let Some(at) = self.order.iter().position(|&handle| self.gdi().get(handle).is_none()) {
-            self.order.remove(at);
+            let gone = self.order.remove(at);
+            self.positions.forget(gone);
             let freed = self.used()..used;
             if !freed.is_empty() {
                 let bitmaps =
@@ -185,6 +202,13 @@ impl Device {
 
     fn dc_mut(&mut self, dc: u32) -> Result<&mut Dc, u8> {
         self.original.gdi.dc_mut(dc).ok_or(1)
+    }
+
+    /// The position that is printed for an object: none if it is no DC, or if the
+    /// script prints no positions.
+    fn shown_position(&self, handle: u32) -> Option<Point> {
+        let is_dc = self.gdi().dc(handle).is_some();
+        (is_dc && self.form == Form::Gdi2).then(|| self.position(handle))
     }
 
     /// The pixels of all bitmaps in the store, without a gap.
@@ -221,17 +245,19 @@ impl Device {
         let screen = gdi.dc(GDI_SCREEN_DC).expect("the screen DC is stock");
         let stock = gdi.bitmap(STOCK_DEFAULT_BITMAP).expect("the bitmap is stock");
         let Framebuffer { width, height, frame_counter, .. } = self.panel;
+        let fields = line::dc_fields(screen, self.shown_position(GDI_SCREEN_DC));
         let (next, dirty, count) = (self.next(), u8::from(stock.host_dirty), self.created().len());
         let mut lines = vec![
             format!(
                 "panel {width} {height} frames {frame_counter} next {next:08x} stock {dirty} \
                  count {count}"
             ),
-            format!("dc {GDI_SCREEN_DC:08x} {}", line::dc_fields(screen)),
+            format!("dc {GDI_SCREEN_DC:08x} {fields}"),
         ];
         for handle in self.created() {
             let object = gdi.get(*handle).expect("a created object is live");
-            lines.push(format!("object {handle:08x} {}", line::object(object)));
+            let shown = line::object(object, self.shown_position(*handle));
+            lines.push(format!("object {handle:08x} {shown}"));
         }
         let (panel, store) = (crc32(&self.panel_bytes()), crc32(&self.store_bytes()));
         lines.push(format!("crc {panel:08x} {store:08x}"));

@@ -7,6 +7,7 @@ use pocket_kernel::framebuffer::colorref_to_rgb565;
 
 use super::call::Call;
 use super::device::Device;
+use super::form::Form;
 use super::handle::STOCK;
 use super::outcome::Answer;
 use super::script::Header;
@@ -35,20 +36,30 @@ pub fn drawing(text: &str) -> Result<Vec<u8>, String> {
     for (at, line) in text.lines().enumerate() {
         drawing.add(line).map_err(|error| format!("line {}: {error}", at + 1))?;
     }
-    drawing.device.map(|_| drawing.script).ok_or("nothing is opened".into())
+    drawing.script().ok_or("nothing is opened".into())
 }
 
-/// A partly read drawing: its script, and the device after the calls so far.
+/// A partly read drawing: its header and calls, and the device after the calls so
+/// far.
 struct Drawing {
-    script: Vec<u8>,
-    device: Option<Device>,
+    /// Before the open there is neither.
+    opened: Option<(Header, Device)>,
+    /// `GDI1` unless a call needs the other.
+    form: Form,
+    calls: Vec<u8>,
     names: HashMap<String, u32>,
 }
 
 impl Drawing {
     fn new() -> Self {
         let stock = STOCK_NAMES.iter().map(ToString::to_string).zip(STOCK);
-        Self { script: Vec::new(), device: None, names: stock.collect() }
+        Self { opened: None, form: Form::Gdi1, calls: Vec::new(), names: stock.collect() }
+    }
+
+    /// The call script; none if nothing is opened.
+    fn script(self) -> Option<Vec<u8>> {
+        let (header, _) = self.opened?;
+        Some([header.bytes_as(self.form), self.calls].concat())
     }
 
     /// Adds the call of a line.
@@ -69,7 +80,7 @@ impl Drawing {
     }
 
     fn open(&mut self, header: Header) -> Result<(), String> {
-        if self.device.is_some() {
+        if self.opened.is_some() {
             return Err("a device is open".into());
         }
         if !header.is_served() {
@@ -79,19 +90,22 @@ impl Drawing {
         if refusal != 0 {
             return Err(refused(refusal));
         }
-        (self.script, self.device) = (header.bytes(), Some(device));
+        self.opened = Some((header, device));
         Ok(())
     }
 
     /// Adds a call and performs it on the device. Returns its answer.
     fn perform(&mut self, words: &[&str]) -> Result<Answer, String> {
         let call = self.call(words)?;
-        let device = self.device.as_mut().ok_or("no device is open")?;
+        let (_, device) = self.opened.as_mut().ok_or("no device is open")?;
         let outcome = device.perform(&call).map_err(|Overflow| "the original's sums overflow")?;
         if outcome.refusal != 0 {
             return Err(refused(outcome.refusal));
         }
-        call.write(&mut self.script);
+        if !self.form.has(call.byte()) {
+            self.form = Form::Gdi2;
+        }
+        call.write(&mut self.calls);
         Ok(outcome.answer)
     }
 
@@ -159,6 +173,12 @@ impl Drawing {
                 let (dc, source, code) =
                     (self.handle(dc)?, self.handle(source)?, self::code(code)?);
                 Call::Blit { dc, x, y, w, h, source, sx, sy, code }
+            }
+            ["move_to", dc, x, y] => {
+                Call::Move { dc: self.handle(dc)?, x: number(x)?, y: number(y)? }
+            }
+            ["line_to", dc, x, y] => {
+                Call::Line { dc: self.handle(dc)?, x: number(x)?, y: number(y)? }
             }
             [name, ..] => return Err(format!("no call {name} with these arguments")),
             [] => return Err("no call".into()),
@@ -277,6 +297,21 @@ mod tests {
     }
 
     #[test]
+    fn a_drawing_with_a_line_or_a_move_is_of_the_second_form() {
+        let header = Header { panel_len: 9, store_len: 40, width: 2, height: 2, fill: 0xA5 };
+        let dc = 0xDEAD_0DC0;
+        let (go, line) = (Call::Move { dc, x: -1, y: 0 }, Call::Line { dc, x: 2, y: -3 });
+        for (text, calls) in [
+            ("resize 1 1\nmove_to screen -1 0", [Call::Resize { width: 1, height: 1 }, go.clone()]),
+            ("line_to screen 2 -3\nmove_to screen -1 0", [line, go]),
+        ] {
+            let mut script = header.bytes_as(Form::Gdi2);
+            calls.iter().for_each(|call| call.write(&mut script));
+            assert_eq!(drawing(&format!("{OPEN}{text}")), Ok(script));
+        }
+    }
+
+    #[test]
     fn a_wrong_line_is_named() {
         let wrong = [
             ("rectangle memory 0 0 1 1", "nothing is called memory"),
@@ -284,6 +319,8 @@ mod tests {
             ("rectangle screen 0 0 1", "no call rectangle with these arguments"),
             ("resize -1 2", "-1 is no number here"),
             ("resize 9 9", "refused with 7"),
+            ("move_to screen 32768 0", "refused with 11"),
+            ("line_to screen 0", "no call line_to with these arguments"),
             ("panel_fill ff00", "ff00 is no colour"),
             ("pattern_fill screen 0 0 1 1 COPY", "COPY is no raster code"),
             ("text screen 0 0 word", "a text is in quotes"),

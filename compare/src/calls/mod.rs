@@ -6,9 +6,11 @@ mod drawing;
 mod drawn;
 mod edges;
 mod examples;
+mod form;
 mod handle;
 mod handles;
 mod line;
+mod lines;
 mod original;
 mod outcome;
 mod paint;
@@ -24,7 +26,8 @@ mod tally;
 pub use device::{bytes_of, MAX_MEMORY, MAX_OBJECTS, MAX_SIDE};
 pub use drawing::drawing;
 pub use handle::STOCK;
-pub use run::{run, run_handles, run_pictures};
+pub use lines::{Point, LEAST, MOST};
+pub use run::{run, run_handles, run_lines, run_pictures};
 pub use sample::sample;
 pub use script::picture;
 
@@ -33,6 +36,11 @@ use tally::Tally;
 /// The random script that a seed makes.
 pub fn script(seed: u64) -> Vec<u8> {
     random::script(seed, &mut Tally::new())
+}
+
+/// The random script of lines and moves that a seed makes.
+pub fn line_script(seed: u64) -> Vec<u8> {
+    lines::script(seed, &mut Tally::new())
 }
 
 /// What is printed for the script; an error if a sum of the original overflows.

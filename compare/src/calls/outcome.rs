@@ -6,6 +6,7 @@ use pocket_kernel::gdi::GdiObject;
 
 use super::call::Call;
 use super::line;
+use super::lines::{Line, Point};
 use crate::overflow::Overflow;
 
 /// The outcome of a call. `Display` prints its line.
@@ -23,9 +24,15 @@ pub enum Answer {
     /// A handle, COLORREF or alignment.
     Number(u32),
     Flag(bool),
-    Object(Option<GdiObject>),
+    /// A removed object, with its position if it is a DC and the script prints
+    /// positions.
+    Object(Option<GdiObject>, Option<Point>),
     /// The advance of a text.
     Advance(i32),
+    /// The old position.
+    Position(Point),
+    /// No answer is printed; this is the line that was drawn.
+    Line(Line),
     /// No answer.
     Nothing,
 }
@@ -54,10 +61,13 @@ impl fmt::Display for Outcome {
         match &self.answer {
             Answer::Number(number) => write!(f, " {number:08x}"),
             Answer::Flag(flag) => write!(f, " {}", u8::from(*flag)),
-            Answer::Object(Some(object)) => write!(f, " {}", line::object(object)),
-            Answer::Object(None) => f.write_str(" none"),
+            Answer::Object(Some(object), position) => {
+                write!(f, " {}", line::object(object, *position))
+            }
+            Answer::Object(None, _) => f.write_str(" none"),
             Answer::Advance(advance) => write!(f, " {advance}"),
-            Answer::Nothing => Ok(()),
+            Answer::Position(position) => write!(f, " {position}"),
+            Answer::Line(_) | Answer::Nothing => Ok(()),
         }
     }
 }
@@ -67,7 +77,8 @@ impl Answer {
     pub fn refused(call: &Call) -> Self {
         match call {
             Call::Delete { .. } | Call::SetBkMode { .. } => Answer::Flag(false),
-            Call::Remove { .. } => Answer::Object(None),
+            Call::Remove { .. } => Answer::Object(None, None),
+            Call::Move { .. } => Answer::Position(Point::default()),
             Call::Text { .. } => Answer::Advance(0),
             _ if call.draws() => Answer::Nothing,
             _ => Answer::Number(0),

@@ -6,6 +6,7 @@ use pocket_kernel::gdi::{rop3, DcSurface, Surface};
 
 use super::call::Call;
 use super::device::{bytes_of, Device, MAX_SIDE};
+use super::lines::Point;
 use super::outcome::{Answer, Stop};
 use crate::overflow::{caught, Overflow};
 
@@ -61,6 +62,11 @@ impl Device {
         Ok(Target { place, brush, pen, text })
     }
 
+    /// The surface that a DC draws on and its packed pen colour, or a refusal.
+    pub(super) fn place_and_pen(&self, dc: u32) -> Result<(Place, u16), u8> {
+        self.target(dc).map(|target| (target.place, target.pen))
+    }
+
     /// Performs a drawing call.
     pub fn draw(&mut self, call: &Call) -> Result<Answer, Stop> {
         match *call {
@@ -86,6 +92,7 @@ impl Device {
             }
             Call::Resize { width, height } => self.resize(width, height)?,
             Call::Blit { .. } => self.blit(call)?,
+            Call::Line { dc, x, y } => return Ok(Answer::Line(self.line_to(dc, Point { x, y })?)),
             _ => unreachable!("{call} draws nothing"),
         }
         Ok(Answer::Nothing)
@@ -141,7 +148,7 @@ impl Device {
         Ok(())
     }
 
-    fn pixels_at(&self, place: Place) -> &[u8] {
+    pub(super) fn pixels_at(&self, place: Place) -> &[u8] {
         match place {
             Place::Panel => &self.panel.pixels,
             Place::Bitmap(handle) => &self.gdi().bitmap(handle).expect("a place is live").pixels,
@@ -150,7 +157,7 @@ impl Device {
 
     /// Makes the original draw on a copy of a surface. The copy replaces the surface
     /// if no sum overflows.
-    fn paint<T>(
+    pub(super) fn paint<T>(
         &mut self,
         place: Place,
         paint: impl FnOnce(&mut Surface<'_>) -> T,

@@ -2,6 +2,7 @@
 
 use super::call::{Call, MAX_UNITS};
 use super::device::{bytes_of, Device, MAX_OBJECTS, MAX_SIDE};
+use super::form::Form;
 use super::handle::{a_dc, any_object, dc_for, selectable, source, with_surface};
 use super::paint::Place;
 use super::script::{Header, MOST_PANEL, MOST_STORE};
@@ -38,7 +39,7 @@ pub fn script(seed: u64, tally: &mut Tally) -> Vec<u8> {
     let (steps, dropped) =
         steps(&mut rng, &mut device, goal, count as usize, |_, _| true, looked_at);
     tally.drop_some(dropped);
-    spoil(&mut rng, header, &steps)
+    spoil(&mut rng, Form::Gdi1, header, &steps)
 }
 
 /// Random calls, which the device performs, with a look after some of them. They
@@ -125,7 +126,8 @@ fn store_len(rng: &mut Rng) -> u32 {
     len as u32
 }
 
-fn call(rng: &mut Rng, device: &Device, goal: usize) -> Call {
+/// A random call of a `GDI1` script.
+pub fn call(rng: &mut Rng, device: &Device, goal: usize) -> Call {
     let live = device.created().len();
     let (create, delete) = if live + 40 < goal && live < MAX_OBJECTS {
         (300, 2)
@@ -228,7 +230,7 @@ fn number(rng: &mut Rng) -> u32 {
 }
 
 /// The sides to draw on: those of a DC's surface, or the panel's if it has none.
-fn sides_of(device: &Device, dc: u32) -> [i64; 2] {
+pub fn sides_of(device: &Device, dc: u32) -> [i64; 2] {
     let place = device.place(dc).unwrap_or(Place::Panel);
     device.sides(place).map(|side| i64::from(side).max(1))
 }
@@ -336,25 +338,37 @@ fn blit(rng: &mut Rng, device: &Device) -> Call {
 }
 
 #[cfg(test)]
-mod tests {
+pub mod tests {
     use super::*;
+    use crate::calls::lines;
     use crate::calls::script::{answered, LONGEST};
+
+    /// A function that makes random scripts.
+    type Scripts = fn(u64, &mut Tally) -> Vec<u8>;
 
     #[test]
     fn a_seed_makes_one_script() {
-        let script = |seed| script(seed, &mut Tally::new());
-        assert_eq!(script(7), script(7));
-        assert_ne!(script(7), script(8));
+        for scripts in [script as Scripts, lines::script] {
+            let script = |seed| scripts(seed, &mut Tally::new());
+            assert_eq!(script(7), script(7));
+            assert_ne!(script(7), script(8));
+        }
+    }
+
+    /// The tally of this many scripts.
+    pub fn tallied(scripts: Scripts, count: u64) -> Tally {
+        let mut tally = Tally::new();
+        for seed in 0..count {
+            let script = scripts(seed, &mut tally);
+            assert!(script.len() <= LONGEST);
+            assert!(answered(&script, &mut tally).is_ok());
+        }
+        tally
     }
 
     #[test]
     fn every_call_refusal_and_answer_occurs() {
-        let mut tally = Tally::new();
-        for seed in 0..400 {
-            let script = script(seed, &mut tally);
-            assert!(script.len() <= LONGEST);
-            assert!(answered(&script, &mut tally).is_ok());
-        }
+        let tally = tallied(script, 400);
         assert!(tally.least() >= 5, "{tally}");
         assert!((6..14).contains(&(tally.calls() / tally.looks())), "{tally}");
         assert!(tally.share_changed() > 60, "{tally}");

@@ -3,6 +3,7 @@
 use super::drawing::drawing;
 use super::edges;
 use super::handles::handles;
+use super::lines;
 use super::random;
 use super::sample::sample;
 use super::script::{answered, picture, Answered, Performed};
@@ -12,18 +13,19 @@ use crate::program::{self, hexadecimal, Progress};
 
 /// How many bytes of a call are shown.
 const SHOWN: usize = 512;
-/// The path of the repository's drawing.
-const SERVICE: &str = include_str!("../../../drawings/service.txt");
+/// The repository's drawings by their names.
+const DRAWINGS: [(&str, &str); 2] = [
+    ("service", include_str!("../../../drawings/service.txt")),
+    ("discharge", include_str!("../../../drawings/discharge.txt")),
+];
 
 /// Compares the scripts at the edges and `count` random ones, each from the next
 /// seed. True if all lines are equal; otherwise it prints the first difference.
 pub fn run(program: &str, count: u64, first: u64) -> Result<bool, String> {
     let mut tally = Tally::new();
     let edges = edges::scripts();
-    for (at, script) in edges.iter().enumerate() {
-        if !compare(program, script, &format!("edge-{at}"), &mut tally)? {
-            return Ok(false);
-        }
+    if !compare_all(program, &edges, "edge", &mut tally)? {
+        return Ok(false);
     }
     let mut progress = Progress::new(count, "scripts");
     for done in 0..count {
@@ -40,6 +42,34 @@ pub fn run(program: &str, count: u64, first: u64) -> Result<bool, String> {
     Ok(true)
 }
 
+/// Compares the fixed scripts of lines, and random ones, each from the next seed,
+/// until they have `count` lines. True if all lines that are printed are equal;
+/// otherwise it prints the first difference.
+pub fn run_lines(program: &str, count: u64, first: u64) -> Result<bool, String> {
+    let mut tally = Tally::new();
+    let edges = lines::edges();
+    if !compare_all(program, &edges, "lines-edge", &mut tally)? {
+        return Ok(false);
+    }
+    let (fixed, mut scripts) = (tally.lines().lines(), 0);
+    let mut progress = Progress::new(count, "lines");
+    while tally.lines().lines() - fixed < count {
+        let seed = first.wrapping_add(scripts);
+        let script = lines::script(seed, &mut tally);
+        if !compare(program, &script, &format!("lines-{seed}"), &mut tally)? {
+            return Ok(false);
+        }
+        scripts += 1;
+        progress.show(tally.lines().lines() - fixed);
+    }
+    let (edges, calls) = (edges.len(), tally.calls());
+    println!(
+        "{edges} fixed scripts with {fixed} lines, {scripts} random ones from seed {first} on"
+    );
+    println!("{calls} calls compared: all lines equal\n{tally}");
+    Ok(true)
+}
+
 /// Compares the script whose handles pass the stock ones.
 pub fn run_handles(program: &str) -> Result<bool, String> {
     let mut tally = Tally::new();
@@ -50,16 +80,21 @@ pub fn run_handles(program: &str) -> Result<bool, String> {
     Ok(equal)
 }
 
-/// Compares the pictures of the fixed sample, of the repository's drawing and of
-/// `count` random scripts, each from the next seed. True if every byte is equal;
-/// otherwise it prints the first difference.
+/// Compares the pictures of the fixed sample, of the repository's drawings and of
+/// `count` random scripts, every fourth of them one of lines, each from the next
+/// seed. True if every byte is equal; otherwise it prints the first difference.
 pub fn run_pictures(program: &str, count: u64, first: u64) -> Result<bool, String> {
-    let service = drawing(SERVICE).map_err(|error| format!("drawings/service.txt: {error}"))?;
-    let fixed = [("sample".into(), sample().0), ("service".into(), service)];
+    let mut fixed = vec![("sample".to_string(), sample().0)];
+    for (name, text) in DRAWINGS {
+        let script = drawing(text).map_err(|error| format!("drawings/{name}.txt: {error}"))?;
+        fixed.push((name.into(), script));
+    }
     let mut progress = Progress::new(fixed.len() as u64 + count, "scripts");
     let random = (0..count).map(|done| {
         let seed = first.wrapping_add(done);
-        (format!("calls-{seed}"), random::script(seed, &mut Tally::new()))
+        let (name, scripts): (_, fn(u64, &mut Tally) -> Vec<u8>) =
+            if done % 4 == 3 { ("lines", lines::script) } else { ("calls", random::script) };
+        (format!("{name}-{seed}"), scripts(seed, &mut Tally::new()))
     });
     let (mut pictures, mut without) = (0, 0);
     for (name, script) in fixed.into_iter().chain(random) {
@@ -74,8 +109,23 @@ pub fn run_pictures(program: &str, count: u64, first: u64) -> Result<bool, Strin
         }
         progress.show(pictures + without);
     }
-    println!("sample, drawing and {count} random scripts from seed {first} on");
+    println!("sample, drawings and {count} random scripts from seed {first} on");
     println!("{pictures} pictures compared, {without} scripts without one: every byte equal");
+    Ok(true)
+}
+
+/// Compares the scripts one after another, up to the first difference.
+fn compare_all(
+    program: &str,
+    scripts: &[Vec<u8>],
+    name: &str,
+    tally: &mut Tally,
+) -> Result<bool, String> {
+    for (at, script) in scripts.iter().enumerate() {
+        if !compare(program, script, &format!("{name}-{at}"), tally)? {
+            return Ok(false);
+        }
+    }
     Ok(true)
 }
 
@@ -126,9 +176,12 @@ mod tests {
     use crate::calls::step::LOOK;
 
     #[test]
-    fn the_drawing_has_a_picture() {
-        let script = drawing(SERVICE).expect("every line is good");
-        assert!(picture(&script).unwrap().starts_with(b"P6\n240 320\n255\n"));
+    fn the_drawings_have_pictures() {
+        for ((_, text), magic) in DRAWINGS.into_iter().zip([b"GDI1", b"GDI2"]) {
+            let script = drawing(text).expect("every line is good");
+            assert!(script.starts_with(magic));
+            assert!(picture(&script).unwrap().starts_with(b"P6\n240 320\n255\n"));
+        }
     }
 
     #[test]

@@ -3,12 +3,12 @@
 use std::ops::Range;
 
 use super::device::Device;
+use super::form::Form;
 use super::step::Step;
 use super::tally::Tally;
 use crate::argument::Argument;
 use crate::overflow::Overflow;
 
-const MAGIC: &[u8; 4] = b"GDI1";
 /// How many bytes a header has.
 pub const HEADER: usize = 21;
 /// The length of the longest script.
@@ -29,20 +29,29 @@ pub struct Header {
 }
 
 impl Header {
-    /// Reads the header from the front of a script; `None` if it is short or wrong.
-    fn read(script: &mut &[u8]) -> Option<Header> {
-        *script = script.strip_prefix(MAGIC)?;
-        Some(Header {
+    /// Reads the script's form and its header from the front of a script; `None` if it
+    /// is short or wrong.
+    fn read(script: &mut &[u8]) -> Option<(Form, Header)> {
+        let form = Form::ALL.into_iter().find(|form| script.starts_with(form.magic()))?;
+        *script = &script[form.magic().len()..];
+        let header = Header {
             panel_len: u32::read(script)?,
             store_len: u32::read(script)?,
             width: u32::read(script)?,
             height: u32::read(script)?,
             fill: u8::read(script)?,
-        })
+        };
+        Some((form, header))
     }
 
+    /// The header of a `GDI1` script.
     pub fn bytes(&self) -> Vec<u8> {
-        let mut bytes = MAGIC.to_vec();
+        self.bytes_as(Form::Gdi1)
+    }
+
+    /// The header of a script of this form.
+    pub fn bytes_as(&self, form: Form) -> Vec<u8> {
+        let mut bytes = form.magic().to_vec();
         for number in [self.panel_len, self.store_len, self.width, self.height] {
             number.write(&mut bytes);
         }
@@ -88,6 +97,7 @@ impl Answered {
 
 /// A script that is being performed, and its lines so far.
 struct Session {
+    form: Form,
     answered: Answered,
     /// The device, if the header is good, and whether it is open.
     device: Option<Device>,
@@ -96,10 +106,10 @@ struct Session {
 
 impl Session {
     /// A session whose first line is printed.
-    fn begun(line: String, device: Option<Device>, tally: &mut Tally) -> Self {
+    fn begun(form: Form, line: String, device: Option<Device>, tally: &mut Tally) -> Self {
         tally.begin(&line);
         let opened = line == "open 0";
-        Self { answered: Answered { lines: vec![line], steps: Vec::new() }, device, opened }
+        Self { form, answered: Answered { lines: vec![line], steps: Vec::new() }, device, opened }
     }
 
     /// Reads a script and performs it with the original; an error if a sum of the
@@ -107,14 +117,15 @@ impl Session {
     fn run(script: &[u8], tally: &mut Tally) -> Result<Self, String> {
         let mut rest = script;
         let header = Header::read(&mut rest).filter(|_| script.len() <= LONGEST);
-        let (refusal, device) = match header {
-            None => return Ok(Self::begun("bad script".into(), None, tally)),
-            Some(header) if !header.is_served() => {
-                return Ok(Self::begun("too large".into(), None, tally));
-            }
-            Some(header) => header.open(),
+        let Some((form, header)) = header else {
+            return Ok(Self::begun(Form::Gdi1, "bad script".into(), None, tally));
         };
-        let mut session = Self::begun(format!("open {refusal}"), Some(device), tally);
+        if !header.is_served() {
+            return Ok(Self::begun(form, "too large".into(), None, tally));
+        }
+        let (refusal, device) = header.open();
+        let device = Some(device.shown_as(form));
+        let mut session = Self::begun(form, format!("open {refusal}"), device, tally);
         if session.opened {
             session.perform(rest, tally)?;
         }
@@ -125,7 +136,7 @@ impl Session {
     fn perform(&mut self, mut script: &[u8], tally: &mut Tally) -> Result<(), String> {
         let device = self.device.as_mut().expect("a device is open");
         while !script.is_empty() {
-            let Some(step) = Step::read(&mut script) else {
+            let Some(step) = Step::read(self.form, &mut script) else {
                 self.answered.lines.push("bad call".into());
                 tally.bad_call();
                 return Ok(());
@@ -162,7 +173,7 @@ pub fn answered(script: &[u8], tally: &mut Tally) -> Result<Answered, String> {
 /// The final panel as a P6 picture, without the lines of looks; only the first line
 /// if no device is open.
 pub fn picture(script: &[u8]) -> Result<Vec<u8>, String> {
-    let Session { answered, device, opened } = Session::run(script, &mut Tally::new())?;
+    let Session { answered, device, opened, .. } = Session::run(script, &mut Tally::new())?;
     Ok(match device {
         Some(device) if opened => device.picture(),
         _ => format!("{}\n", answered.lines[0]).into_bytes(),
@@ -191,7 +202,10 @@ mod tests {
         let bytes = SMALL.bytes();
         assert_eq!(bytes, *b"GDI1\0\0\0\x08\0\0\0\x02\0\0\0\x02\0\0\0\x02\xFF");
         assert_eq!(bytes.len(), HEADER);
-        assert_eq!(Header::read(&mut bytes.as_slice()), Some(SMALL));
+        assert_eq!(Header::read(&mut bytes.as_slice()), Some((Form::Gdi1, SMALL)));
+        let bytes = SMALL.bytes_as(Form::Gdi2);
+        assert_eq!(bytes[..5], *b"GDI2\0");
+        assert_eq!(Header::read(&mut bytes.as_slice()), Some((Form::Gdi2, SMALL)));
     }
 
     #[test]
@@ -245,6 +259,26 @@ mod tests {
             assert_eq!(answered.lines.len(), 7);
             assert_eq!(answered.steps.len(), 1);
         }
+    }
+
+    #[test]
+    fn the_second_form_prints_positions() {
+        let refused = Header { height: 3, ..SMALL };
+        for (header, calls) in [(SMALL, vec![0x01, LOOK]), (refused, vec![0x01])] {
+            let [one, two] =
+                Form::ALL.map(|form| printed(&[header.bytes_as(form), calls.clone()].concat()));
+            let with_positions = |line: &str| {
+                let dc = line.starts_with("dc ") || line.contains(" dc memory ");
+                format!("{line}{}\n", if dc { " 0 0" } else { "" })
+            };
+            assert_eq!(one.lines().map(with_positions).collect::<String>(), two);
+        }
+        let line = Call::Line { dc: GDI_SCREEN_DC, x: 1, y: -7 }.bytes();
+        let lines = printed(&[SMALL.bytes_as(Form::Gdi2), line.clone()].concat());
+        assert!(lines.starts_with("open 0\n14 0\npanel 2 2 frames 1 "), "{lines}");
+        assert!(lines.contains(" 00ffffff 0 1 -7\ncrc "), "{lines}");
+        let lines = printed(&[SMALL.bytes(), line].concat());
+        assert!(lines.starts_with("open 0\nbad call\npanel 2 2 frames 0 "), "{lines}");
     }
 
     #[test]

@@ -3,18 +3,19 @@
 use pocket_kernel::gdi::{rop3, GDI_SCREEN_DC, STOCK_WHITE_BRUSH};
 
 use super::call::{Call, MAX_UNITS};
+use super::form::Form;
 use super::script::{Header, HEADER, MOST_PANEL, MOST_STORE};
 use super::step::{begins_step, Step};
 use crate::rng::Rng;
 
-/// The script of these steps, sometimes with an error.
-pub fn spoil(rng: &mut Rng, header: Header, steps: &[Step]) -> Vec<u8> {
+/// The script of these steps in this form, sometimes with an error.
+pub fn spoil(rng: &mut Rng, form: Form, header: Header, steps: &[Step]) -> Vec<u8> {
     let header = match rng.below(32) {
         0 => too_large(rng, header),
         1..=3 => refused(rng, header),
         _ => header,
     };
-    let mut script = header.bytes();
+    let mut script = header.bytes_as(form);
     steps.iter().for_each(|step| step.write(&mut script));
     match rng.below(32) {
         0 => script.truncate(rng.below(HEADER as u64) as usize),
@@ -22,7 +23,7 @@ pub fn spoil(rng: &mut Rng, header: Header, steps: &[Step]) -> Vec<u8> {
             let at = rng.below(4) as usize;
             script[at] ^= 1 << rng.below(8);
         }
-        2..=6 => end(rng, &mut script),
+        2..=6 => end(rng, form, &mut script),
         _ => {}
     }
     script
@@ -58,10 +59,10 @@ fn refused(rng: &mut Rng, mut header: Header) -> Header {
 }
 
 /// Ends the script with a bad call, mostly followed by bytes that must not be read.
-fn end(rng: &mut Rng, script: &mut Vec<u8>) {
+fn end(rng: &mut Rng, form: Form, script: &mut Vec<u8>) {
     let high = rng.pick(&[0x0001_0000, 0x0100_0000, 0x8000_0000, 0xFFFF_0000]);
     match rng.below(16) {
-        0..=4 => script.push(unknown(rng)),
+        0..=4 => script.push(unknown(rng, form)),
         5..=8 => {
             let transparent = rng.pick(&[2, 3, 0x100, 0x0001_0000, u32::MAX]);
             Call::SetBkMode { dc: GDI_SCREEN_DC, transparent }.write(script);
@@ -71,22 +72,22 @@ fn end(rng: &mut Rng, script: &mut Vec<u8>) {
             let count = MAX_UNITS as i64 + rng.between(1, 3);
             Call::text(GDI_SCREEN_DC, 0, 0, vec![0x41; count as usize]).write(script);
         }
-        _ => return cut_short(rng, script),
+        _ => return cut_short(rng, form, script),
     }
     for _ in 0..rng.below(4) {
         Call::CreateMemoryDc {}.write(script);
     }
 }
 
-/// A byte that is no call and no look, often a low one.
-fn unknown(rng: &mut Rng) -> u8 {
-    let unknown: Vec<u8> = (0..=u8::MAX).filter(|byte| !begins_step(*byte)).collect();
+/// A byte that is no call of this form and no look, often a low one.
+fn unknown(rng: &mut Rng, form: Form) -> u8 {
+    let unknown: Vec<u8> = (0..=u8::MAX).filter(|byte| !begins_step(form, *byte)).collect();
     let most = if rng.one_in(2) { 8 } else { unknown.len() };
     rng.pick(&unknown[..most])
 }
 
 /// Adds a call that lacks its last bytes.
-fn cut_short(rng: &mut Rng, script: &mut Vec<u8>) {
+fn cut_short(rng: &mut Rng, form: Form, script: &mut Vec<u8>) {
     let dc = GDI_SCREEN_DC;
     let (x, y, w, h, sx, sy, code) = (0, 0, 2, 2, 0, 1, rop3::SRCCOPY);
     let call = match rng.below(7) {
@@ -97,6 +98,10 @@ fn cut_short(rng: &mut Rng, script: &mut Vec<u8>) {
         4 => Call::PanelFill { word: 0xFFFF },
         5 => Call::Blit { dc, x, y, w, h, source: dc, sx, sy, code },
         _ => Call::text(dc, x, y, vec![0x41, 0x42]),
+    };
+    let call = match form {
+        Form::Gdi2 if rng.one_in(2) => Call::Line { dc, x: w, y: h },
+        _ => call,
     };
     let bytes = call.bytes();
     let len = 1 + rng.below(bytes.len() as u64 - 1);
@@ -117,9 +122,12 @@ mod tests {
             assert_eq!(printed(&too_large(&mut rng, HEADER).bytes()), "too large\n");
             let lines = printed(&refused(&mut rng, HEADER).bytes());
             assert!(lines.starts_with("open 6\n") || lines.starts_with("open 7\n"), "{lines}");
-            let mut script = HEADER.bytes();
-            end(&mut rng, &mut script);
-            assert!(printed(&script).starts_with("open 0\nbad call\npanel 2 2 "), "{script:?}");
+            for form in Form::ALL {
+                let mut script = HEADER.bytes_as(form);
+                end(&mut rng, form, &mut script);
+                let lines = printed(&script);
+                assert!(lines.starts_with("open 0\nbad call\npanel 2 2 "), "{script:?}");
+            }
         }
     }
 }

@@ -1,6 +1,7 @@
 //! The steps of a script: calls and looks.
 
 use super::call::{Call, KINDS};
+use super::form::Form;
 
 /// The byte of a look.
 pub const LOOK: u8 = 0x7F;
@@ -14,13 +15,14 @@ pub enum Step {
 }
 
 impl Step {
-    /// Reads a step from the front of a script; `None` if it is a bad call.
-    pub fn read(script: &mut &[u8]) -> Option<Step> {
+    /// Reads a step from the front of a script of this form; `None` if it is a bad
+    /// call.
+    pub fn read(form: Form, script: &mut &[u8]) -> Option<Step> {
         if let Some(rest) = script.strip_prefix(&[LOOK]) {
             *script = rest;
             return Some(Step::Look);
         }
-        Call::read(script).map(Step::Call)
+        Call::read(script).filter(|call| form.has(call.byte())).map(Step::Call)
     }
 
     /// Appends the bytes to a script.
@@ -38,9 +40,9 @@ impl From<Call> for Step {
     }
 }
 
-/// Whether the byte is the first one of a step.
-pub fn begins_step(byte: u8) -> bool {
-    byte == LOOK || KINDS.iter().any(|kind| kind.0 == byte)
+/// Whether the byte is the first one of a step in a script of this form.
+pub fn begins_step(form: Form, byte: u8) -> bool {
+    byte == LOOK || form.has(byte) && KINDS.iter().any(|kind| kind.0 == byte)
 }
 
 #[cfg(test)]
@@ -57,15 +59,28 @@ mod tests {
         assert_eq!(script, [LOOK, LOOK, 0x03, LOOK, LOOK, LOOK, LOOK, LOOK]);
         let mut rest = script.as_slice();
         for step in steps {
-            assert_eq!(Step::read(&mut rest), Some(step));
+            assert_eq!(Step::read(Form::Gdi1, &mut rest), Some(step));
         }
-        assert_eq!(Step::read(&mut rest), None);
-        assert_eq!(Step::read(&mut [0x00, LOOK].as_slice()), None);
+        for form in Form::ALL {
+            assert_eq!(Step::read(form, &mut rest), None);
+            assert_eq!(Step::read(form, &mut [0x00, LOOK].as_slice()), None);
+        }
+    }
+
+    #[test]
+    fn only_the_second_form_has_moves_and_lines() {
+        for call in [Call::Move { dc: 1, x: 2, y: 3 }, Call::Line { dc: 1, x: 2, y: 3 }] {
+            let bytes = call.bytes();
+            assert_eq!(Step::read(Form::Gdi1, &mut bytes.as_slice()), None);
+            assert_eq!(Step::read(Form::Gdi2, &mut bytes.as_slice()), Some(call.into()));
+        }
     }
 
     #[test]
     fn these_bytes_begin_a_step() {
-        let bytes: Vec<u8> = (0..=u8::MAX).filter(|byte| begins_step(*byte)).collect();
-        assert_eq!(bytes, [(0x01..=0x12).collect(), vec![LOOK]].concat());
+        for (form, last) in [(Form::Gdi1, 0x12), (Form::Gdi2, 0x14)] {
+            let bytes: Vec<u8> = (0..=u8::MAX).filter(|byte| begins_step(form, *byte)).collect();
+            assert_eq!(bytes, [(0x01..=last).collect(), vec![LOOK]].concat());
+        }
     }
 }

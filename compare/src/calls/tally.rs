@@ -8,6 +8,8 @@ use pocket_kernel::gdi::{is_stock_handle, GdiObject, GDI_SCREEN_DC};
 use super::call::{is_drawing, Call, KINDS};
 use super::device::Device;
 use super::drawn::Drawn;
+use super::form::Form;
+use super::lines::Lines;
 use super::outcome::{Answer, Outcome};
 use crate::counts::Counts;
 
@@ -22,11 +24,14 @@ pub struct Tally {
     refused: Counts<7>,
     /// Texts refused with 10.
     too_long: u64,
+    /// Moves and lines refused with 11.
+    out_of_range: u64,
     deleted: Counts<3>,
     removed: Counts<6>,
     selected: Counts<4>,
     set: Counts<2>,
     drawn: Drawn,
+    lines: Lines,
     /// Bitmaps that moved, and those of them that were not all black.
     moved: [u64; 2],
     /// Random calls that were dropped because a sum of the original overflows.
@@ -45,11 +50,13 @@ impl Tally {
             kinds: [[0; 3]; KINDS.len()],
             refused: Counts::new(["1", "2", "3", "4", "5", "6", "7"]),
             too_long: 0,
+            out_of_range: 0,
             deleted: Counts::new(["created", "stock", "absent"]),
             removed: Counts::new(["none", "DC", "bitmap", "brush", "pen", "font"]),
             selected: Counts::new(["nothing", "stock", "live", "gone"]),
             set: Counts::new(["screen", "created"]),
             drawn: Drawn::new(),
+            lines: Lines::new(),
             moved: [0; 2],
             dropped: 0,
             most: 0,
@@ -87,9 +94,11 @@ impl Tally {
         if call.draws() {
             self.drawn.count(call, outcome, device);
         }
+        self.lines.count(call, outcome);
         match outcome.refusal {
             0 => self.count_accepted(call, outcome, device),
             10 => self.too_long += 1,
+            11 => self.out_of_range += 1,
             number => self.refused.add(&number.to_string()),
         }
     }
@@ -101,7 +110,7 @@ impl Tally {
                 let stock = if is_stock_handle(*handle) { "stock" } else { "created" };
                 self.deleted.add(if *deleted { stock } else { "absent" });
             }
-            (Call::Remove { .. }, Answer::Object(object)) => self.removed.add(kind_of(object)),
+            (Call::Remove { .. }, Answer::Object(object, _)) => self.removed.add(kind_of(object)),
             (Call::Select { .. }, Answer::Number(previous)) => {
                 self.selected.add(standing(*previous, device));
             }
@@ -137,13 +146,26 @@ impl Tally {
     pub fn least_of_calls(&self) -> u64 {
         let answers = [self.refused.least(), self.deleted.least(), self.removed.least()];
         let others = [self.selected.least(), self.set.least(), self.drawn.least()];
-        let kinds = KINDS.iter().zip(self.kinds);
+        let kinds = KINDS.iter().zip(self.kinds).filter(|(kind, _)| Form::Gdi1.has(kind.0));
         let kinds = kinds.flat_map(|((byte, _), [calls, accepted, changed])| {
             let changed = if is_drawing(*byte) { changed } else { calls };
             [calls, accepted, changed]
         });
         let all = kinds.chain(answers).chain(others).chain(self.moved).chain([self.looks]);
         all.min().unwrap_or_default()
+    }
+
+    /// The same for lines and moves.
+    #[cfg(test)]
+    pub fn least_of_lines(&self) -> u64 {
+        let added = KINDS.iter().zip(self.kinds).filter(|(kind, _)| !Form::Gdi1.has(kind.0));
+        let accepted = added.map(|(_, [_, accepted, _])| accepted).min().unwrap_or_default();
+        accepted.min(self.lines.least()).min(self.out_of_range).min(self.looks)
+    }
+
+    /// The counts of lines and moves.
+    pub fn lines(&self) -> &Lines {
+        &self.lines
     }
 
     #[cfg(test)]
@@ -187,7 +209,10 @@ fn standing(previous: u32, device: &Device) -> &'static str {
 impl fmt::Display for Tally {
     fn fmt(&self, f: &mut fmt::Formatter<'_>) -> fmt::Result {
         writeln!(f, "{:30}{:>10}{:>10}{:>10}", "", "calls", "accepted", "changed")?;
-        for ((byte, name), [calls, accepted, changed]) in KINDS.iter().zip(&self.kinds) {
+        // Moves and lines are listed only if there are some.
+        let listed = |byte: u8| Form::Gdi1.has(byte) || self.lines.lines() > 0;
+        let kinds = KINDS.iter().zip(&self.kinds).filter(|(kind, _)| listed(kind.0));
+        for ((byte, name), [calls, accepted, changed]) in kinds {
             let changed = if is_drawing(*byte) { changed.to_string() } else { String::new() };
             let line = format!("  {byte:02x} {name:25}{calls:>10}{accepted:>10}{changed:>10}");
             writeln!(f, "{}", line.trim_end())?;
@@ -195,7 +220,12 @@ impl fmt::Display for Tally {
         writeln!(f, "accepted drawings that changed a pixel: {} %", self.share_changed())?;
         writeln!(f, "looks {}", self.looks)?;
         writeln!(f, "scripts: {}; ended by a bad call: {}", self.begun, self.bad_calls)?;
-        writeln!(f, "refused: {}, 10 {}", self.refused, self.too_long)?;
+        write!(f, "refused: {}, 10 {}", self.refused, self.too_long)?;
+        if self.lines.lines() > 0 {
+            writeln!(f, ", 11 {}\n{}", self.out_of_range, self.lines)?;
+        } else {
+            writeln!(f)?;
+        }
         writeln!(f, "deleted: {}", self.deleted)?;
         writeln!(f, "removed: {}", self.removed)?;
         writeln!(f, "previously selected: {}", self.selected)?;

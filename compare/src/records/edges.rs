@@ -2,7 +2,7 @@
 
 use super::random::lend_all;
 use super::record::{Object, Record, Slot, MEMORY, SCREEN};
-use crate::calls::{bytes_of, MAX_MEMORY, MAX_OBJECTS, MAX_SIDE, STOCK};
+use crate::calls::{bytes_of, Point, LEAST, MAX_MEMORY, MAX_OBJECTS, MAX_SIDE, MOST, STOCK};
 
 /// A sound record with a panel of 2 by 3 and six objects, the first and the last of
 /// them DCs. Its memories have the least length, and are lent with that length.
@@ -24,6 +24,7 @@ pub fn base() -> Record {
         next_handle: 0,
         stock_dirty: 1,
         screen: SCREEN,
+        position: Point { x: -9, y: 10 },
         count: 6,
         slots: objects.map(|(handle, object)| Slot { handle, object }).to_vec(),
         panel_lent: 12,
@@ -50,7 +51,18 @@ pub fn dc(surface: u8) -> Object {
         align: 7,
         bk_color: 8,
         transparent: 1,
+        x: 9,
+        y: -10,
     }
+}
+
+/// A memory DC with this position.
+pub fn dc_at(position: Point) -> Object {
+    let mut dc = dc(MEMORY);
+    if let Object::Dc { x, y, .. } = &mut dc {
+        [*x, *y] = [position.x, position.y];
+    }
+    dc
 }
 
 pub fn records() -> Vec<Record> {
@@ -61,6 +73,7 @@ pub fn records() -> Vec<Record> {
     sides(&mut records);
     lengths(&mut records);
     counts(&mut records);
+    positions(&mut records);
     records
 }
 
@@ -143,6 +156,19 @@ fn counts(records: &mut Vec<Record>) {
     }
 }
 
+/// Positions of the screen DC and of created DCs: at each end of the range, just past
+/// it and far past it, in either coordinate.
+fn positions(records: &mut Vec<Record>) {
+    for coordinate in [LEAST, MOST, LEAST - 1, MOST + 1, 0x1_0000, -0x1_0000, i32::MIN, i32::MAX] {
+        for position in [Point { x: coordinate, y: 0 }, Point { x: 0, y: coordinate }] {
+            add(records, |record| record.position = position);
+            for at in [0, 3, 5] {
+                add(records, |record| record.slots[at].object = dc_at(position));
+            }
+        }
+    }
+}
+
 #[cfg(test)]
 mod tests {
     use super::*;
@@ -161,5 +187,6 @@ mod tests {
         assert_eq!(refusals(sides), "999999".to_string() + "000099" + "000099" + "999999");
         assert_eq!(refusals(lengths), "9900008899999999".to_string() + "9");
         assert_eq!(refusals(counts), "00099999".to_string() + "0099999");
+        assert_eq!(refusals(positions), "0".repeat(2 * 8) + &"9".repeat(6 * 8));
     }
 }

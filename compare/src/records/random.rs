@@ -5,7 +5,7 @@ use pocket_kernel::gdi::is_stock_handle;
 use super::record::{Object, Record, Slot, MEMORY, MOST_LENT, SCREEN};
 use super::tally::Tally;
 use super::wrong::{junk, WRONG};
-use crate::calls::{bytes_of, MAX_MEMORY, MAX_OBJECTS, MAX_SIDE};
+use crate::calls::{bytes_of, Point, LEAST, MAX_MEMORY, MAX_OBJECTS, MAX_SIDE, MOST};
 use crate::rng::Rng;
 
 /// A random record; about half of them are sound.
@@ -54,6 +54,7 @@ fn sound(rng: &mut Rng, least: usize) -> Record {
         next_handle: rng.next() as u32,
         stock_dirty: rng.below(2) as u8,
         screen: if rng.one_in(8) { MEMORY } else { SCREEN },
+        position: position(rng),
         count: count as u64,
         slots: handles.map(|handle| Slot { handle, object: object(rng) }).collect(),
         panel_lent: 0,
@@ -130,6 +131,21 @@ pub fn dc(rng: &mut Rng, surface: u8) -> Object {
         align: rng.next() as u32,
         bk_color: rng.next() as u32,
         transparent: rng.below(2) as u8,
+        x: coordinate(rng),
+        y: coordinate(rng),
+    }
+}
+
+fn position(rng: &mut Rng) -> Point {
+    Point { x: coordinate(rng), y: coordinate(rng) }
+}
+
+/// A coordinate in range: at an end of it, small, or any.
+fn coordinate(rng: &mut Rng) -> i32 {
+    match rng.below(4) {
+        0 => rng.pick(&[LEAST, MOST]),
+        1 => rng.between(-20, 20) as i32,
+        _ => rng.between(LEAST.into(), MOST.into()) as i32,
     }
 }
 

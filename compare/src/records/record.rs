@@ -5,7 +5,7 @@ use std::collections::HashSet;
 use pocket_kernel::gdi::is_stock_handle;
 
 use crate::argument::Argument;
-use crate::calls::{bytes_of, MAX_MEMORY, MAX_OBJECTS, MAX_SIDE};
+use crate::calls::{bytes_of, Point, MAX_MEMORY, MAX_OBJECTS, MAX_SIDE};
 use crate::table::table;
 
 /// The longest memory that the program lends.
@@ -21,7 +21,7 @@ table! {
         0x00 "DC" Dc {
             surface: u8, chosen: u8, bitmap: u32, brush: u32, pen: u32, font: u32,
             brush_color: u32, pen_color: u32, text_color: u32, align: u32, bk_color: u32,
-            transparent: u8
+            transparent: u8, x: i32, y: i32
         }
         0x01 "bitmap" Bitmap { width: u32, height: u32, dirty: u8 }
         0x02 "brush" Brush { color: u32 }
@@ -46,8 +46,10 @@ pub struct Record {
     pub frame_counter: u64,
     pub next_handle: u32,
     pub stock_dirty: u8,
-    /// The screen DC's surface; its other fields are those of a fresh device.
+    /// The screen DC's surface and position; its other fields are those of a fresh
+    /// device.
     pub screen: u8,
+    pub position: Point,
     pub count: u64,
     /// The slots given; the others are vacant.
     pub slots: Vec<Slot>,
@@ -70,14 +72,17 @@ impl Record {
     }
 
     /// Whether the record is sound, by the specification's list. Only created DCs
-    /// must be memory DCs; the screen DC's surface has no effect.
+    /// must be memory DCs; the screen DC's surface has no effect. The positions of all
+    /// DCs are in range.
     pub fn is_sound(&self) -> bool {
         let side = |n| (1..=MAX_SIDE).contains(&n);
         let created = self.count.min(self.slots.len() as u64) as usize;
         let created = &self.slots[..created];
         let fits = |slot: &Slot| {
             let object = match slot.object {
-                Object::Dc { surface, .. } => surface == MEMORY,
+                Object::Dc { surface, x, y, .. } => {
+                    surface == MEMORY && Point { x, y }.is_position()
+                }
                 Object::Bitmap { width, height, .. } => side(width) && side(height),
                 _ => true,
             };
@@ -90,6 +95,7 @@ impl Record {
             && self.count == created.len() as u64
             && created.iter().all(fits)
             && handles.len() == created.len()
+            && self.position.is_position()
             && side(self.width)
             && side(self.height)
             && bytes_of(self.width, self.height) <= self.panel_len
@@ -119,6 +125,7 @@ impl Record {
             next_handle: u32::read(stream)?,
             stock_dirty: u8::read(stream)?,
             screen: u8::read(stream)?,
+            position: Point { x: i32::read(stream)?, y: i32::read(stream)? },
             count: u64::read(stream)?,
             slots: Vec::new(),
             panel_lent: 0,
@@ -144,6 +151,8 @@ impl Record {
         self.next_handle.write(stream);
         self.stock_dirty.write(stream);
         self.screen.write(stream);
+        self.position.x.write(stream);
+        self.position.y.write(stream);
         self.count.write(stream);
         (self.slots.len() as u16).write(stream);
         for slot in &self.slots {
@@ -171,7 +180,7 @@ impl Slot {
 #[cfg(test)]
 mod tests {
     use super::*;
-    use crate::records::edges::{base, bitmap, dc};
+    use crate::records::edges::{base, bitmap, dc, dc_at};
 
     /// The refusal of the record after the change.
     fn refusal(change: impl FnOnce(&mut Record)) -> u8 {
@@ -184,14 +193,14 @@ mod tests {
     fn records_are_written_and_read() {
         let mut bytes = Vec::new();
         base().write(&mut bytes);
-        assert_eq!(bytes.len(), 48 + 2 * 44 + 14 + 9 + 13 + 9 + 8);
+        assert_eq!(bytes.len(), 56 + 2 * 52 + 14 + 9 + 13 + 9 + 8);
         assert_eq!(Record::read(&mut bytes.as_slice()), Some(base()));
         for len in 0..bytes.len() {
             assert_eq!(Record::read(&mut &bytes[..len]), None);
         }
         // The flags of the stock bitmap and of the screen DC, the number of slots, the kind and
         // surface of the first slot.
-        for (at, byte) in [(36, 2), (37, 2), (46, 1), (52, 5), (53, 2)] {
+        for (at, byte) in [(36, 2), (37, 2), (54, 1), (60, 5), (61, 2)] {
             let mut bytes = bytes.clone();
             bytes[at] = byte;
             bytes.resize(20_000, 0);
@@ -231,12 +240,31 @@ mod tests {
     }
 
     #[test]
-    fn the_screen_dc_is_not_asked() {
+    fn the_screen_dc_s_surface_is_not_asked() {
         assert_eq!(refusal(|record| record.screen = MEMORY), 0);
         assert_eq!(refusal(|record| (record.screen, record.store_lent) = (MEMORY, 11)), 8);
         assert_eq!(refusal(|record| (record.screen, record.count) = (MEMORY, 7)), 9);
         let mut bytes = Vec::new();
         Record { screen: MEMORY, ..base() }.write(&mut bytes);
         assert_eq!(Record::read(&mut bytes.as_slice()), Some(Record { screen: MEMORY, ..base() }));
+    }
+
+    #[test]
+    fn positions_are_asked() {
+        for (coordinate, number) in [(-32_769, 9), (-32_768, 0), (32_767, 0), (32_768, 9)] {
+            let points = [Point { x: coordinate, y: 5 }, Point { x: -5, y: coordinate }];
+            for Point { x, y } in points {
+                assert_eq!(refusal(|record| record.position = Point { x, y }), number);
+                assert_eq!(
+                    refusal(|record| record.slots[5].object = dc_at(Point { x, y })),
+                    number
+                );
+                // A slot past the count has no effect.
+                let past = |record: &mut Record| {
+                    (record.slots[5].object, record.count) = (dc_at(Point { x, y }), 5);
+                };
+                assert_eq!(refusal(past), 0);
+            }
+        }
     }
 }

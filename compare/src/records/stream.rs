@@ -3,7 +3,7 @@
 use super::record::Record;
 use super::tally::Tally;
 
-pub const MAGIC: &[u8; 4] = b"REC1";
+pub const MAGIC: &[u8; 4] = b"REC2";
 /// The length of the longest stream.
 pub const LONGEST: usize = 1_048_576;
 
@@ -37,10 +37,10 @@ mod tests {
 
     #[test]
     fn a_wrong_begin_or_too_many_bytes_are_a_bad_script() {
-        for stream in [b"".as_slice(), b"REC", b"REC2", b"rec1", &b"REC1".repeat(LONGEST / 4 + 1)] {
+        for stream in [b"".as_slice(), b"REC", b"REC1", b"rec2", &b"REC2".repeat(LONGEST / 4 + 1)] {
             assert_eq!(lines(stream), ["bad script"]);
         }
-        assert!(lines(b"REC1").is_empty());
+        assert!(lines(b"REC2").is_empty());
     }
 
     #[test]

@@ -2,14 +2,14 @@
 
 use super::random::{dc, handles};
 use super::record::{Object, Record, Slot, MEMORY, SCREEN};
-use crate::calls::{bytes_of, MAX_MEMORY, MAX_OBJECTS, MAX_SIDE, STOCK};
+use crate::calls::{bytes_of, LEAST, MAX_MEMORY, MAX_OBJECTS, MAX_SIDE, MOST, STOCK};
 use crate::rng::Rng;
 
 /// A change to a sound record that has at least three objects.
 type Change = fn(&mut Rng, &mut Record);
 
 /// The changes and their names.
-pub const WRONG: [(&str, Change); 13] = [
+pub const WRONG: [(&str, Change); 15] = [
     ("count", count),
     ("vacant slot", vacant_slot),
     ("neighbour's handle", neighbours_handle),
@@ -23,6 +23,8 @@ pub const WRONG: [(&str, Change); 13] = [
     ("store", |rng, record| record.store_len = record.pixels() - rng.pick(&[1, 1, 2])),
     ("sum of 32 bits", sum_of_32_bits),
     ("long memory", long_memory),
+    ("screen DC's position", screen_position),
+    ("DC's position", dc_position),
 ];
 
 /// Sides out of range, mostly by one. The product of two of them can be 0 in 32
@@ -124,6 +126,38 @@ fn long_memory(rng: &mut Rng, record: &mut Record) {
     }
 }
 
+/// Coordinates out of range: just past it, far past it, and such that their low 16
+/// bits are in range.
+const OUT_OF_RANGE: [i32; 8] =
+    [LEAST - 1, LEAST - 1, MOST + 1, MOST + 1, 0x1_0000, -0x1_0000, i32::MIN, i32::MAX];
+
+/// One coordinate out of range, or both.
+fn out_of_range(rng: &mut Rng, x: &mut i32, y: &mut i32) {
+    let out = rng.pick(&OUT_OF_RANGE);
+    match rng.below(5) {
+        0 | 1 => *x = out,
+        2 | 3 => *y = out,
+        _ => (*x, *y) = (out, rng.pick(&OUT_OF_RANGE)),
+    }
+}
+
+fn screen_position(rng: &mut Rng, record: &mut Record) {
+    out_of_range(rng, &mut record.position.x, &mut record.position.y);
+}
+
+fn dc_position(rng: &mut Rng, record: &mut Record) {
+    a_slot(rng, record).object = misplaced(rng);
+}
+
+/// A memory DC whose position is out of range.
+fn misplaced(rng: &mut Rng) -> Object {
+    let mut object = dc(rng, MEMORY);
+    if let Object::Dc { x, y, .. } = &mut object {
+        out_of_range(rng, x, y);
+    }
+    object
+}
+
 /// A slot that no sound record has.
 pub fn junk(rng: &mut Rng, record: &Record) -> Slot {
     let taken: Vec<u32> = record.slots.iter().map(|slot| slot.handle).collect();
@@ -133,10 +167,11 @@ pub fn junk(rng: &mut Rng, record: &Record) -> Slot {
         2 if !taken.is_empty() => rng.pick(&taken),
         _ => 0,
     };
-    let object = match rng.below(4) {
+    let object = match rng.below(5) {
         0 => dc(rng, SCREEN),
         1 => dc(rng, MEMORY),
-        2 => Object::Bitmap { width: rng.pick(&SIDES), height: rng.pick(&SIDES), dirty: 1 },
+        2 => misplaced(rng),
+        3 => Object::Bitmap { width: rng.pick(&SIDES), height: rng.pick(&SIDES), dirty: 1 },
         _ => Object::Brush { color: 0 },
     };
     Slot { handle, object }

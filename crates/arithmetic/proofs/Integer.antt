@@ -75,6 +75,11 @@ pub one-part : (z : ℤ) → min (positive z) (negative z) ≡ 0
 one-part (pos n) = omega arith
 one-part (negsuc n) = omega arith
 
+-- the absolute value
+pub abs-parts : (z : ℤ) → natAbs z ≡ positive z + negative z
+abs-parts (pos n) = omega arith
+abs-parts (negsuc n) = omega arith
+
 -- an integer that is not negative
 pub abs-positive : (z : ℤ) → negative z ≡ 0 → natAbs z ≡ positive z
 abs-positive (pos n) h = refl

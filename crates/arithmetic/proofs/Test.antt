@@ -48,6 +48,26 @@ none zero f t n h = absurd (not-suc-le-zero h)
 none (suc k) f t zero h = neither (f 0) (anyBelow k (λ m. f (suc m))) t .0
 none (suc k) f t (suc n) h = none k (λ m. f (suc m)) (neither (f 0) (anyBelow k (λ m. f (suc m))) t .1) n (le-of-suc-le-suc h)
 
+-- a number below k passes
+pub any-at : (k : ℕ) (f : ℕ → Bool) (n : ℕ) → n < k → f n ≡ true → anyBelow k f ≡ true
+any-at k f n lt e = by (anyBelow k f) refl
+  where
+    by : (t : Bool) → anyBelow k f ≡ t → t ≡ true
+    by true g = refl
+    by false g = absurd (true≢false (sym e ∙ none k f g n lt))
+
+-- a number that passes
+abbrev pub Some : (k : ℕ) (f : ℕ → Bool) → Type 0
+Some k f = (n : ℕ) × ((n < k) × (f n ≡ true))
+
+pub any-some : (k : ℕ) (f : ℕ → Bool) → anyBelow k f ≡ true → Some k f
+any-some zero f e = absurd (true≢false (sym e))
+any-some (suc k) f e = by (f 0) refl e (any-some k (λ m. f (suc m)))
+  where
+    by : (t : Bool) → f 0 ≡ t → (t || anyBelow k (λ m. f (suc m))) ≡ true → (anyBelow k (λ m. f (suc m)) ≡ true → Some k (λ m. f (suc m))) → Some (suc k) f
+    by true g h less = (0, (omega arith, g))
+    by false g h less = let r = less h in (suc (r .0), (omega (arith, r .1 .0), r .1 .1))
+
 -- the last number of a test can be split off
 or-swap : (a b c : Bool) → (a || (b || c)) ≡ (b || (a || c))
 or-swap true true c = refl

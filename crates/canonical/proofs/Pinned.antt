@@ -15,12 +15,13 @@ use Rattle.arithmetic.proofs.Test.{both, each}
 use Rattle.words.specs.Parts.{part}
 use Rattle.bigendian.specs.BigEndian.{signed32}
 use Rattle.bigendian.proofs.Signed.{below-half, from-half}
+use Rattle.gdi.specs.declared.Dc.{Dc}
 use Rattle.gdi.specs.declared.GdiObject.{GdiObject}
 use Rattle.gdi.specs.declared.GdiObject.the-variants.{Dc as DcOf, Bitmap, Brush, Pen, Font}
 use Rattle.gdi.specs.declared.GdiState.{GdiState}
 use Rattle.gdi.specs.declared.Slot.{Slot}
 use Rattle.gdi.specs.Lookup.{slotAt}
-use Rattle.numbers.specs.Layout.{dcSize, objectSize, slotSize, headSize, panelLenPlace, storeLenPlace, widthPlace, heightPlace, framesLowPlace, framesHighPlace, nextHandlePlace, stockDirtyPlace, countPlace, screenPlace, slotsPlace, slotPlace, kindPlace, objectPlace, surfaceIn, presentIn, bitmapIn, bkTransparentIn, bitmapWidthIn, bitmapHeightIn, bitmapDirtyIn, fontHeightIn, bitmapSize, brushSize, penSize, fontSize}
+use Rattle.numbers.specs.Layout.{dcSize, objectSize, slotSize, headSize, panelLenPlace, storeLenPlace, widthPlace, heightPlace, framesLowPlace, framesHighPlace, nextHandlePlace, stockDirtyPlace, countPlace, screenPlace, slotsPlace, slotPlace, kindPlace, objectPlace, surfaceIn, presentIn, bitmapIn, bkTransparentIn, posXIn, posYIn, bitmapWidthIn, bitmapHeightIn, bitmapDirtyIn, fontHeightIn, bitmapSize, brushSize, penSize, fontSize}
 use Rattle.numbers.specs.Block.{at, flagOf, isFlag, flagNumber, surfaceOf, bitmapOf, dcFields, isDc, objectOf, zerosFrom, isObject, ObjectCoded, slotOf, isSlot}
 use Rattle.numbers.specs.View.{view, isRecord, Updated}
 use Rattle.numbers.proofs.Block.{surfaceNumber, presentNumber, bitmapNumber, no-kind, dcNumbers}
@@ -91,17 +92,31 @@ zeros-behind l k t i lt = by (decLt i k)
         let e : i ≡ k + (i - k) = omega arith in
         ap (at l) e ∙ eqb-true (at l (k + (i - k))) 0 (each (objectSize - k) (λ j. eqb (at l (k + j)) 0) t (i - k) (omega arith)) ∙ sym (listed-behind l 0 k i (omega arith))
 
+-- an object's numbers are of 32 bits
+abbrev Small : List ℕ → Type 0
+Small l = (k : ℕ) → k < objectSize → at l k < 2 ^ 32
+
 -- a DC's numbers, from the DC
-dc-listed : (l : List ℕ) → isDc l ≡ true → listed l 0 dcSize ≡ dcNumbers (dcFields l)
+abbrev numbersOf : Dc → List ℕ
+numbersOf d = dcNumbers d (complement (d .«pos_x»)) (complement (d .«pos_y»))
+
+dc-listed : (l : List ℕ) → Small l → isDc l ≡ true → listed l 0 dcSize ≡ numbersOf (dcFields l)
 unfolding isDc dcFields
-dc-listed l t =
+dc-listed l small t =
     let chosen : Bool = flagOf (at l presentIn) || (eqb (at l presentIn) 0 && eqb (at l bitmapIn) 0) in
     let a = both (isFlag (at l surfaceIn)) (isFlag (at l bkTransparentIn) && chosen) t in
     let b = both (isFlag (at l bkTransparentIn)) chosen (a .1) in
-    rw (← surface-number (at l surfaceIn) (leb-true (at l surfaceIn) 1 (a .0)), ← present-number (at l presentIn) (at l bitmapIn) (b .1), ← bitmap-number (at l presentIn) (at l bitmapIn) (b .1), ← flag-number (at l bkTransparentIn) (leb-true (at l bkTransparentIn) 1 (b .0)))
+    rw (
+      ← surface-number (at l surfaceIn) (leb-true (at l surfaceIn) 1 (a .0)),
+      ← present-number (at l presentIn) (at l bitmapIn) (b .1),
+      ← bitmap-number (at l presentIn) (at l bitmapIn) (b .1),
+      ← flag-number (at l bkTransparentIn) (leb-true (at l bkTransparentIn) 1 (b .0)),
+      ← complement-back (at l posXIn) (small posXIn (omega arith)),
+      ← complement-back (at l posYIn) (small posYIn (omega arith)),
+    )
 
-dc-back : (l : List ℕ) → isDc l ≡ true → (i : ℕ) → i < dcSize → at l i ≡ at (dcNumbers (dcFields l)) i
-dc-back l t i lt = zeros-behind l dcSize refl i lt ∙ ap (λ (d : List ℕ). at d i) (dc-listed l t)
+dc-back : (l : List ℕ) → Small l → isDc l ≡ true → (i : ℕ) → i < dcSize → at l i ≡ at (numbersOf (dcFields l)) i
+dc-back l small t i lt = zeros-behind l dcSize refl i lt ∙ ap (λ (d : List ℕ). at d i) (dc-listed l small t)
 
 -- an object's kind and numbers, from the object; the numbers past these are 0
 abbrev kindNumber : GdiObject → ℕ
@@ -112,7 +127,7 @@ kindNumber (Pen x) = 3
 kindNumber (Font x) = 4
 
 abbrev objectNumbers : GdiObject → List ℕ
-objectNumbers (DcOf d) = dcNumbers d
+objectNumbers (DcOf d) = numbersOf d
 objectNumbers (Bitmap x) = x .width ∷ x .height ∷ flagNumber (x .«host_dirty») ∷ []
 objectNumbers (Brush x) = x .color .0 ∷ []
 objectNumbers (Pen x) = x .color .0 ∷ x .width ∷ []
@@ -130,27 +145,27 @@ kind-back (suc (suc (suc zero))) l t = refl
 kind-back (suc (suc (suc (suc zero)))) l t = refl
 kind-back (suc (suc (suc (suc (suc k))))) l t = absurd (unknown-kind k l t)
 
-object-back : (k : ℕ) (l : List ℕ) → at l fontHeightIn < 2 ^ 32 → isObject k l ≡ true → (i : ℕ) → i < objectSize → at l i ≡ at (objectNumbers (objectOf k l)) i
+object-back : (k : ℕ) (l : List ℕ) → Small l → isObject k l ≡ true → (i : ℕ) → i < objectSize → at l i ≡ at (objectNumbers (objectOf k l)) i
 unfolding isObject objectOf
-object-back zero l b t i lt = dc-back l t i lt
+object-back zero l b t i lt = dc-back l b t i lt
 object-back (suc zero) l b t i lt =
     let a = both (isFlag (at l bitmapDirtyIn)) (zerosFrom l bitmapSize) t in
     zeros-behind l bitmapSize (a .1) i lt ∙ ap (λ (n : ℕ). at (at l bitmapWidthIn ∷ at l bitmapHeightIn ∷ n ∷ []) i) (flag-number (at l bitmapDirtyIn) (leb-true (at l bitmapDirtyIn) 1 (a .0)))
 object-back (suc (suc zero)) l b t i lt = zeros-behind l brushSize t i lt
 object-back (suc (suc (suc zero))) l b t i lt = zeros-behind l penSize t i lt
-object-back (suc (suc (suc (suc zero)))) l b t i lt = zeros-behind l fontSize t i lt ∙ ap (λ (n : ℕ). at (n ∷ []) i) (complement-back (at l fontHeightIn) b)
+object-back (suc (suc (suc (suc zero)))) l b t i lt = zeros-behind l fontSize t i lt ∙ ap (λ (n : ℕ). at (n ∷ []) i) (complement-back (at l fontHeightIn) (b fontHeightIn (omega arith)))
 object-back (suc (suc (suc (suc (suc k))))) l b t i lt = absurd (unknown-kind k l t)
 
 -- a slot's numbers, from the slot
 abbrev slotNumbers : Slot → List ℕ
 slotNumbers s = s .handle ∷ kindNumber (s .object) ∷ objectNumbers (s .object)
 
-slot-back : (l : List ℕ) → at l objectPlace < 2 ^ 32 → isSlot l ≡ true → (i : ℕ) → i < slotSize → at l i ≡ at (slotNumbers (slotOf l)) i
+slot-back : (l : List ℕ) → ((k : ℕ) → k < slotSize → at l k < 2 ^ 32) → isSlot l ≡ true → (i : ℕ) → i < slotSize → at l i ≡ at (slotNumbers (slotOf l)) i
 slot-back l b t zero lt = refl
 slot-back l b t (suc zero) lt = kind-back (at l kindPlace) (part l objectPlace objectSize) t
 slot-back l b t (suc (suc i)) lt =
     ap (at l) (omega arith) ∙ sym (part-at l objectPlace objectSize i (omega arith))
-    ∙ object-back (at l kindPlace) (part l objectPlace objectSize) (rw (part-at l objectPlace objectSize fontHeightIn (omega arith)) b) t i (omega arith)
+    ∙ object-back (at l kindPlace) (part l objectPlace objectSize) (λ k h. rw (part-at l objectPlace objectSize k h) (b (objectPlace + k) (omega arith))) t i (omega arith)
 
 -- the numbers of a record, from the record
 module _ (l : List ℕ) (small : (k : ℕ) → at l k < 2 ^ 32) (r : isRecord l ≡ true) where
@@ -165,14 +180,14 @@ module _ (l : List ℕ) (small : (k : ℕ) → at l k < 2 ^ 32) (r : isRecord l 
   device-back : (k : ℕ) → k < headSize → at l k ≡ at (deviceNumbers (view l)) k
   device-back k lt = ap (at l) (omega arith) ∙ listed-within l 0 headSize k lt ∙ ap (λ (d : List ℕ). at d k) device-listed
 
-  screen-back : (k : ℕ) → k < dcSize → at l (screenPlace + k) ≡ at (dcNumbers (view l .screen)) k
+  screen-back : (k : ℕ) → k < dcSize → at l (screenPlace + k) ≡ at (numbersOf (view l .screen)) k
   unfolding view
-  screen-back k lt = sym (part-at l screenPlace dcSize k lt) ∙ dc-back (part l screenPlace dcSize) (parts l r .screen) k lt
+  screen-back k lt = sym (part-at l screenPlace dcSize k lt) ∙ dc-back (part l screenPlace dcSize) (λ j h. rw (part-at l screenPlace dcSize j h) (small (screenPlace + j))) (parts l r .screen) k lt
 
   table-back : (i k : ℕ) → i < at l countPlace → k < slotSize → at l (slotPlace i + k) ≡ at (slotNumbers (slotAt (view l) i)) k
   table-back i k lt h =
       sym (part-at l (slotPlace i) slotSize k h)
-      ∙ slot-back (part l (slotPlace i) slotSize) (rw (part-at l (slotPlace i) slotSize objectPlace (omega arith)) (small (slotPlace i + objectPlace))) (parts l r .slots i lt) k h
+      ∙ slot-back (part l (slotPlace i) slotSize) (λ j b. rw (part-at l (slotPlace i) slotSize j b) (small (slotPlace i + j))) (parts l r .slots i lt) k h
       ∙ sym (ap (λ s. at (slotNumbers s) k) (slot-seen l i lt (omega (arith, parts l r .few))))
 
 -- two lists of numbers that encode the same record and agree past its last object are equal
@@ -187,7 +202,7 @@ same-numbers l m sl sm rl rm e rest =
     by k (yes a) b c = device-back l sl rl k a ∙ ap (λ (b : GdiState). at (deviceNumbers b) k) e ∙ sym (device-back m sm rm k a)
     by k (no a) (yes b) c =
         let i : screenPlace + (k - screenPlace) ≡ k = omega arith in
-        rw i at (screen-back l sl rl (k - screenPlace) (omega arith) ∙ ap (λ (b : GdiState). at (dcNumbers (b .screen)) (k - screenPlace)) e ∙ sym (screen-back m sm rm (k - screenPlace) (omega arith)))
+        rw i at (screen-back l sl rl (k - screenPlace) (omega arith) ∙ ap (λ (b : GdiState). at (numbersOf (b .screen)) (k - screenPlace)) e ∙ sym (screen-back m sm rm (k - screenPlace) (omega arith)))
     by k (no a) (no b) (yes c) =
         let i : ℕ = (k - slotsPlace) / slotSize in
         let j : ℕ = (k - slotsPlace) % slotSize in
@@ -210,7 +225,7 @@ updated-unique l l′ k′ b sl sk x y =
     rest m z = ap (λ (n : ℕ). drop (slotPlace n) m) (sym (count-seen m) ∙ ap (λ (s : GdiState). s .count) (z .same)) ∙ z .rest
 
 -- an object's kind and numbers are determined by the object
-pub same-object : {o : GdiObject} {i j : ℕ} {l m : List ℕ} → length l ≡ objectSize → length m ≡ objectSize → at l fontHeightIn < 2 ^ 32 → at m fontHeightIn < 2 ^ 32
+pub same-object : {o : GdiObject} {i j : ℕ} {l m : List ℕ} → length l ≡ objectSize → length m ≡ objectSize → Small l → Small m
     → ObjectCoded o i l → ObjectCoded o j m → (i ≡ j) × (l ≡ m)
 same-object {i = i} {j = j} {l = l} {m = m} long long′ small small′ x y =
     let e = x .same ∙ sym (y .same) in (

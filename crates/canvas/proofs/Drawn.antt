@@ -17,12 +17,13 @@ use Rattle.surface.proofs.Accepted.{InOrder, order-accepted}
 use Rattle.surface.proofs.Answers.{done-drawn}
 use Rattle.fill.specs.Fill.{FillRectRop}
 use Rattle.outline.specs.Outline.{StrokeRect}
+use Rattle.line.specs.Line.{extent, line, lineMarks}
 use Rattle.text.specs.Ink.{textInk}
 use Rattle.plan.specs.declared.Area.{Area}
 use Rattle.plan.specs.declared.Point.{Point}
 use Rattle.canvas.specs.declared.Drawing.{Drawing}
-use Rattle.canvas.specs.declared.Drawing.the-variants.{Fill, Outline, Text}
-use Rattle.canvas.specs.Inner.{marksOf, drawnOf, UnitsFit}
+use Rattle.canvas.specs.declared.Drawing.the-variants.{Fill, Outline, Text, Line}
+use Rattle.canvas.specs.Inner.{marksOf, drawnOf, Drawable}
 
 -- painting one colour is painting under PATCOPY's table
 solid : (P : ℕ → Bool) (c : ℕ) (m : List ℕ) → c < 65536 → painted P (λ _. c) m ≡ painted P (ropped 0xF0 c (λ _. 0) m) m
@@ -53,5 +54,19 @@ module _ {g : Drawing} (us : List ℕ) (c width height : ℕ) (m : List ℕ) {m�
       → Drawn g us c width height m (ltb 0 n) m′
   as-text {p} x y small e q = (rw e, q ∙ solid _ c m small ∙ rw (stored32 (p .x) x, stored32 (p .y) y, e))
 
-pub countable : {g : Drawing} (len : ℕ) {p : Point} {n : ℕ} → UnitsFit g len → g ≡ Text p n → (n ≤ len) × (n ≤ 65535)
-countable len k e = subst (λ (v : Drawing). UnitsFit v len) e k
+  pub as-line : {t : Bool} {p q : Point} → SFits w32 (p .x) → SFits w32 (p .y) → SFits w32 (q .x) → SFits w32 (q .y) → c < 65536 → g ≡ Line p q
+      → t ≡ lineMarks width height (held32 (p .x)) (held32 (p .y)) (held32 (q .x)) (held32 (q .y))
+      → m′ ≡ painted (wordsOf width (line (held32 (p .x)) (held32 (p .y)) (held32 (q .x)) (held32 (q .y)))) (λ _. c) m
+      → Drawn g us c width height m t m′
+  as-line {p = p} {q = q} x y u v small e marks bytes = (
+    marks ∙ rw (stored32 (p .x) x, stored32 (p .y) y, stored32 (q .x) u, stored32 (q .y) v, e),
+    bytes ∙ solid _ c m small ∙ rw (stored32 (p .x) x, stored32 (p .y) y, stored32 (q .x) u, stored32 (q .y) v, e),
+  )
+
+-- the ends of a line that the code draws
+pub near : {g : Drawing} (len : ℕ) {p q : Point} → Drawable g len → g ≡ Line p q → SFits w32 (p .x) → SFits w32 (p .y) → SFits w32 (q .x) → SFits w32 (q .y)
+    → (extent (held32 (p .x)) (held32 (q .x)) < 65536) × (extent (held32 (p .y)) (held32 (q .y)) < 65536)
+near len {p} {q} k e x y u v = rw (stored32 (p .x) x, stored32 (p .y) y, stored32 (q .x) u, stored32 (q .y) v) (subst (λ (d : Drawing). Drawable d len) e k)
+
+pub countable : {g : Drawing} (len : ℕ) {p : Point} {n : ℕ} → Drawable g len → g ≡ Text p n → (n ≤ len) × (n ≤ 65535)
+countable len k e = subst (λ (v : Drawing). Drawable v len) e k

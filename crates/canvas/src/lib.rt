@@ -1,4 +1,4 @@
-// Fills, outlines and text on a surface in either memory: the surface's part of the memory is lent to the operation.
+// Fills, outlines, text and lines on a surface in either memory: the surface's part of the memory is lent to the operation.
 ghost use mathlib.Core.Path.{_≡_};
 ghost use lib.ListN.{length};
 ghost use Rattle.surface.proofs.Accepted.{InOrder};
@@ -6,18 +6,20 @@ ghost use Rattle.place.specs.Place.{Within};
 ghost use Rattle.paint.specs.Memories.{widthOf, over};
 ghost use Rattle.plan.specs.Drawing.{marksAt};
 ghost use Rattle.plan.proofs.Followed.{OnMemories};
-ghost use Rattle.canvas.specs.Inner.{marksOf, drawnOf, UnitsFit};
+ghost use Rattle.canvas.specs.Inner.{marksOf, drawnOf, Drawable};
 use color::Rgb565;
 use place::Memory;
 use place::Place;
 use plan::Area;
 use plan::Point;
 
-// What to draw in one colour: an area under a raster code, the outline of an area, or the first count units of a text.
+// What to draw in one colour: an area under a raster code, the outline of an area, the first count units of a text, or a line
+// without its end.
 pub enum Drawing {
     Fill { area: Area, rop: u32 },
     Outline(Area),
     Text { at: Point, count: usize },
+    Line { from: Point, to: Point },
 }
 
 // Draws on the surface at a place. Returns whether a dirty mark is due.
@@ -30,7 +32,7 @@ pub fn draw_at(
     color: Rgb565,
 ) -> bool
     requires { ⌜ Within (length (now panel)) (length (now store)) at ⌝ }
-    requires { ⌜ UnitsFit drawing (length (now units)) ⌝ }
+    requires { ⌜ Drawable drawing (length (now units)) ⌝ }
     ensures { λ r. ⌜ r ≡ marksAt at (marksOf drawing) ⌝ }
     ensures bytes { λ _. ⌜ OnMemories (λ ms ms′. ms′ ≡ over at (drawnOf drawing (now (units .entry)) (color .0) (widthOf at)) ms) panel store ⌝ }
 {
@@ -60,7 +62,7 @@ fn draw_on(
     color: Rgb565,
 ) -> bool
     requires { ⌜ InOrder width height (length (now pixels)) ⌝ }
-    requires { ⌜ UnitsFit drawing (length (now units)) ⌝ }
+    requires { ⌜ Drawable drawing (length (now units)) ⌝ }
     ensures { λ r. ⌜ r ≡ marksOf drawing width height ⌝ }
     ensures bytes { λ _. ⌜ now (pixels .exit) ≡ drawnOf drawing (now (units .entry)) (color .0) width (now (pixels .entry)) ⌝ }
 {
@@ -86,6 +88,9 @@ fn draw_on(
         Drawing::Text { at, count } => {
             text::draw_units(pixels, width, height, at.x, at.y, units, count, color);
             0 < count
+        }
+        Drawing::Line { from, to } => {
+            line::draw_line(pixels, width, height, from.x, from.y, to.x, to.y, color.0)
         }
     }
 }

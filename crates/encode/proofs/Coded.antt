@@ -46,29 +46,29 @@ bitmap-flags : (b : SelectedBitmap) → (flagOf (presentNumber b) || (eqb (prese
 bitmap-flags Unset = refl
 bitmap-flags (Chosen h) = refl
 
--- the numbers of a DC
-pub dc-coded : (d : Dc) → DcCoded d (dcNumbers d)
+-- the numbers of a DC; those of its position are the two's complements of its coordinates
+pub dc-coded : (d : Dc) {x y : ℕ} → SFits w32 (d .«pos_x») → SFits w32 (d .«pos_y») → signed32 x ≡ held32 (d .«pos_x») → signed32 y ≡ held32 (d .«pos_y») → DcCoded d (dcNumbers d x y)
 unfolding dcFields isDc
-dc-coded d =
+dc-coded d fx fy ex ey =
     record {
       is-dc = rw (surface-flag (d .surface), flag-flag (d .«bk_transparent»)) (bitmap-flags (d .«selected_bitmap»));
-      same = rw (surface-back (d .surface), bitmap-back (d .«selected_bitmap»), flag-back (d .«bk_transparent»));
+      same = rw (surface-back (d .surface), bitmap-back (d .«selected_bitmap»), flag-back (d .«bk_transparent»), ex ∙ stored32 (d .«pos_x») fx, ey ∙ stored32 (d .«pos_y») fy);
     }
 
 -- the numbers of the other objects
-pub bitmap-coded : (m : Bitmap) → ObjectCoded (BitmapOf m) 1 (m .width ∷ m .height ∷ flagNumber (m .«host_dirty») ∷ 0 ∷ 0 ∷ 0 ∷ 0 ∷ 0 ∷ 0 ∷ 0 ∷ 0 ∷ 0 ∷ [])
+pub bitmap-coded : (m : Bitmap) → ObjectCoded (BitmapOf m) 1 (m .width ∷ m .height ∷ flagNumber (m .«host_dirty») ∷ 0 ∷ 0 ∷ 0 ∷ 0 ∷ 0 ∷ 0 ∷ 0 ∷ 0 ∷ 0 ∷ 0 ∷ 0 ∷ [])
 unfolding objectOf isObject
 bitmap-coded m = record { is-object = rw (flag-flag (m .«host_dirty»)); same = rw (flag-back (m .«host_dirty»)) }
 
-pub brush-coded : (x : BrushRecord) → ObjectCoded (Brush x) 2 (x .color .0 ∷ 0 ∷ 0 ∷ 0 ∷ 0 ∷ 0 ∷ 0 ∷ 0 ∷ 0 ∷ 0 ∷ 0 ∷ 0 ∷ [])
+pub brush-coded : (x : BrushRecord) → ObjectCoded (Brush x) 2 (x .color .0 ∷ 0 ∷ 0 ∷ 0 ∷ 0 ∷ 0 ∷ 0 ∷ 0 ∷ 0 ∷ 0 ∷ 0 ∷ 0 ∷ 0 ∷ 0 ∷ [])
 unfolding objectOf isObject
 brush-coded x = record { is-object = refl; same = refl }
 
-pub pen-coded : (x : PenRecord) → ObjectCoded (Pen x) 3 (x .color .0 ∷ x .width ∷ 0 ∷ 0 ∷ 0 ∷ 0 ∷ 0 ∷ 0 ∷ 0 ∷ 0 ∷ 0 ∷ 0 ∷ [])
+pub pen-coded : (x : PenRecord) → ObjectCoded (Pen x) 3 (x .color .0 ∷ x .width ∷ 0 ∷ 0 ∷ 0 ∷ 0 ∷ 0 ∷ 0 ∷ 0 ∷ 0 ∷ 0 ∷ 0 ∷ 0 ∷ 0 ∷ [])
 unfolding objectOf isObject
 pen-coded x = record { is-object = refl; same = refl }
 
-pub font-coded : (x : FontRecord) (n : ℕ) → SFits w32 (x .height) → signed32 n ≡ held32 (x .height) → ObjectCoded (Font x) 4 (n ∷ 0 ∷ 0 ∷ 0 ∷ 0 ∷ 0 ∷ 0 ∷ 0 ∷ 0 ∷ 0 ∷ 0 ∷ 0 ∷ [])
+pub font-coded : (x : FontRecord) (n : ℕ) → SFits w32 (x .height) → signed32 n ≡ held32 (x .height) → ObjectCoded (Font x) 4 (n ∷ 0 ∷ 0 ∷ 0 ∷ 0 ∷ 0 ∷ 0 ∷ 0 ∷ 0 ∷ 0 ∷ 0 ∷ 0 ∷ 0 ∷ 0 ∷ [])
 unfolding objectOf isObject
 font-coded x n f e = record { is-object = refl; same = ap (λ (z : ℤ). Font (record { height = z })) (e ∙ stored32 (x .height) f) }
 

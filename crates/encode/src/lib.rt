@@ -68,9 +68,11 @@ fn put(
     j: u32,
     k: u32,
     m: u32,
+    x: u32,
+    y: u32,
 )
     requires { ⌜ length (now numbers) ≡ objectSize ⌝ }
-    ensures { λ _. ⌜ now (numbers .exit) ≡ a ∷ b ∷ c ∷ d ∷ e ∷ f ∷ g ∷ h ∷ i ∷ j ∷ k ∷ m ∷ [] ⌝ }
+    ensures { λ _. ⌜ now (numbers .exit) ≡ a ∷ b ∷ c ∷ d ∷ e ∷ f ∷ g ∷ h ∷ i ∷ j ∷ k ∷ m ∷ x ∷ y ∷ [] ⌝ }
 {
     numbers[0] = a;
     numbers[1] = b;
@@ -84,14 +86,16 @@ fn put(
     numbers[9] = j;
     numbers[10] = k;
     numbers[11] = m;
+    numbers[12] = x;
+    numbers[13] = y;
 }
 
 // Writes three numbers, then zeros.
 fn put_few(numbers: &mut [u32], a: u32, b: u32, c: u32)
     requires { ⌜ length (now numbers) ≡ objectSize ⌝ }
-    ensures { λ _. ⌜ now (numbers .exit) ≡ a ∷ b ∷ c ∷ 0 ∷ 0 ∷ 0 ∷ 0 ∷ 0 ∷ 0 ∷ 0 ∷ 0 ∷ 0 ∷ [] ⌝ }
+    ensures { λ _. ⌜ now (numbers .exit) ≡ a ∷ b ∷ c ∷ 0 ∷ 0 ∷ 0 ∷ 0 ∷ 0 ∷ 0 ∷ 0 ∷ 0 ∷ 0 ∷ 0 ∷ 0 ∷ [] ⌝ }
 {
-    put(numbers, a, b, c, 0, 0, 0, 0, 0, 0, 0, 0, 0);
+    put(numbers, a, b, c, 0, 0, 0, 0, 0, 0, 0, 0, 0, 0, 0);
 }
 
 // Writes a DC.
@@ -115,6 +119,8 @@ pub fn put_dc(numbers: &mut [u32], d: Dc)
         d.text_align,
         d.bk_color.0,
         numbers::flag_number(d.bk_transparent),
+        unsigned(d.pos_x),
+        unsigned(d.pos_y),
     );
 }
 

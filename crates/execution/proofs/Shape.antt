@@ -29,7 +29,7 @@ use Rattle.place.specs.declared.Place.the-variants.{Nowhere, At}
 use Rattle.place.specs.declared.SurfaceId.{SurfaceId}
 use Rattle.place.specs.declared.SurfaceId.the-variants.{Panel, Bitmap}
 use Rattle.place.specs.Place.{whereIs, lengthOf}
-use Rattle.place.proofs.Same.{still-same}
+use Rattle.place.proofs.Same.{Still, still-same}
 use Rattle.dirty.specs.Dirty.{dirtied}
 use Rattle.dirty.proofs.Still.{dirtied-still}
 use Rattle.handles.specs.Handles.{added}
@@ -41,7 +41,7 @@ use Rattle.paint.proofs.Blanks.{Blanked, new-blanked, sized-blanked}
 use Rattle.plan.specs.declared.Area.{Area}
 use Rattle.plan.specs.declared.Point.{Point}
 use Rattle.plan.specs.declared.Call.{Call}
-use Rattle.plan.specs.declared.Call.the-variants.{CreateMemoryDc, CreateCompatibleBitmap, CreateSolidBrush, CreatePen, CreateFont, Delete, Remove, SelectInto, SetTextColor, SetTextAlign, SetBkColor, SetBkMode, PatternFill, Rectangle, Text, PanelFill, Resize, Blit}
+use Rattle.plan.specs.declared.Call.the-variants.{CreateMemoryDc, CreateCompatibleBitmap, CreateSolidBrush, CreatePen, CreateFont, Delete, Remove, SelectInto, SetTextColor, SetTextAlign, SetBkColor, SetBkMode, PatternFill, Rectangle, Text, PanelFill, Resize, Blit, MoveTo, LineTo}
 use Rattle.plan.specs.Answer.{Parts, done}
 use Rattle.plan.specs.Plan.{Plan, recordOnly, refuse}
 use Rattle.plan.specs.Stroke.{Stroke, drawnBy}
@@ -49,10 +49,11 @@ use Rattle.plan.specs.Create.{creation, createOf, newBitmap, createBitmap}
 use Rattle.plan.specs.Delete.{deletionAt, deletionOf}
 use Rattle.plan.specs.Drawing.{packedOf, blitted, blit}
 use Rattle.plan.specs.Panel.{panelFillStroke, resized}
+use Rattle.plan.specs.Lines.{movedTo}
 use Rattle.plan.specs.Calls.{act}
-use Rattle.plan.proofs.Cases.{pattern-fill-by, rectangle-by, text-by, blit-by, resize-by}
+use Rattle.plan.proofs.Cases.{pattern-fill-by, rectangle-by, text-by, move-by, line-by, blit-by, resize-by}
 use Rattle.plan.proofs.Create.{bitmap-fits}
-use Rattle.plan.proofs.Select.{Unpainted, select-unpainted, setting-unpainted}
+use Rattle.plan.proofs.Select.{Unpainted, select-unpainted, setting-unpainted, moved-still}
 
 -- the source of each stroke has a pixel for every pixel that is drawn
 abbrev pub AllSourced : GdiState → List Stroke → Type 0
@@ -66,11 +67,11 @@ pub record Blanks (b b′ : GdiState) (k : Memory) (p n : ℕ) (clears : Surface
   pub surfaces : isSound b ≡ true → (u : SurfaceId) → Blanked k p n (clears u) (whereIs b u) (whereIs b′ u)
   pub ready : (panel-len store-len : ℕ) → Ready b panel-len store-len → Ready b′ panel-len store-len
 
--- The shapes: nothing is painted, and every surface stays in its place; strokes are made; surfaces are new and black; a created
--- object is removed.
+-- The shapes: nothing is painted, and every surface stays in its place; strokes are made, after a change of the record that leaves
+-- every surface in its place; surfaces are new and black; a created object is removed.
 pub data Shape (b : GdiState) : Plan → Type 0 where
   record-only : {p : Plan} → Unpainted b p → Shape b p
-  strokes : (ss : List Stroke) (a : Parts) → AllSourced b ss → Shape b (drawnBy b ss a)
+  strokes : (b′ : GdiState) (ss : List Stroke) (a : Parts) → Still b b′ → AllSourced b ss → Shape b (drawnBy b′ ss a)
   blanks : (b′ : GdiState) (a : Parts) (k : Memory) (p n : ℕ) (clears : SurfaceId → Bool) → Blanks b b′ k p n clears
       → Shape b (record { outcome = record { state = b′; answer = a }; paint = blank k p n clears ∷ [] })
   deletion : (gone : ℕ → Parts) (none : Parts) (h i : ℕ) → isStock h ≡ false → findOf b h ≡ FoundAt i → Shape b (deletionAt gone none b h (FoundAt i))
@@ -82,6 +83,10 @@ module _ (b : GdiState) where
 
   refused : (n : ℕ) → Shape b (refuse n b)
   refused n = unchanged _
+
+  -- strokes without another change of the record
+  drawn : (ss : List Stroke) (a : Parts) → AllSourced b ss → Shape b (drawnBy b ss a)
+  drawn ss a i = strokes b ss a (still-same b) i
 
   -- a creation: the new object's pixels are new and black
   new-object : (o : GdiObject) → objectFits o ≡ true → b .count < 256 → used b + bytesOf o ≤ b .«store_len» → Shape b (creation b o)
@@ -131,8 +136,8 @@ module _ (b : GdiState) where
   blit-shape : (dc : ℕ) (a : Area) (src : ℕ) (p : Point) (rop : ℕ) → Shape b (blit b dc a src p rop)
   blit-shape dc a src p rop =
       blit-by (Shape b) b refused dc a src p rop
-      (λ s d. strokes _ _ ((λ x y e. refl), tt))
-      (λ s d q. strokes _ _ (blit-sourced s q a p (tableOf rop) (packedOf (d .«brush_color»)), tt))
+      (λ s d. drawn _ _ ((λ x y e. refl), tt))
+      (λ s d q. drawn _ _ (blit-sourced s q a p (tableOf rop) (packedOf (d .«brush_color»)), tt))
 
   -- the panel at a new size, new and black
   sized-sound : (w h : ℕ) → side w ≡ true → side h ≡ true → size w h ≤ b .«panel_len» → isSound b ≡ true → isSound (withSides b w h) ≡ true
@@ -145,6 +150,7 @@ module _ (b : GdiState) where
         width = wide;
         height = high;
         panel = fits;
+        screen = p .screen;
         slots = p .slots;
         apart = p .apart;
         store = p .store;
@@ -175,13 +181,15 @@ module _ (b : GdiState) where
   act-shape (Delete h) us = goes-shape _ _ _ h
   act-shape (Remove h) us = goes-shape _ _ _ h
   act-shape (SelectInto dc h) us = record-only (select-unpainted b dc h)
-  act-shape (SetTextColor dc c) us = record-only (setting-unpainted _ _ (λ d. refl) b dc)
-  act-shape (SetTextAlign dc v) us = record-only (setting-unpainted _ _ (λ d. refl) b dc)
-  act-shape (SetBkColor dc c) us = record-only (setting-unpainted _ _ (λ d. refl) b dc)
-  act-shape (SetBkMode dc t) us = record-only (setting-unpainted _ _ (λ d. refl) b dc)
-  act-shape (PatternFill dc a rop) us = pattern-fill-by (Shape b) b refused dc a rop (λ s d. strokes _ _ ((λ x y e. refl), tt))
-  act-shape (Rectangle dc a) us = rectangle-by (Shape b) b refused dc a (λ s d. strokes _ _ ((λ x y e. refl), ((λ x y e. refl), tt)))
-  act-shape (Text dc at) us = text-by (Shape b) b refused us dc at (λ s d. strokes _ _ ((λ x y e. refl), tt))
-  act-shape (PanelFill c) us = strokes (panelFillStroke (c .0) ∷ []) done ((λ x y e. refl), tt)
+  act-shape (SetTextColor dc c) us = record-only (setting-unpainted _ _ (λ d. record { surface = refl; position = refl }) b dc)
+  act-shape (SetTextAlign dc v) us = record-only (setting-unpainted _ _ (λ d. record { surface = refl; position = refl }) b dc)
+  act-shape (SetBkColor dc c) us = record-only (setting-unpainted _ _ (λ d. record { surface = refl; position = refl }) b dc)
+  act-shape (SetBkMode dc t) us = record-only (setting-unpainted _ _ (λ d. record { surface = refl; position = refl }) b dc)
+  act-shape (PatternFill dc a rop) us = pattern-fill-by (Shape b) b refused dc a rop (λ s d. drawn _ _ ((λ x y e. refl), tt))
+  act-shape (Rectangle dc a) us = rectangle-by (Shape b) b refused dc a (λ s d. drawn _ _ ((λ x y e. refl), ((λ x y e. refl), tt)))
+  act-shape (Text dc at) us = text-by (Shape b) b refused us dc at (λ s d. drawn _ _ ((λ x y e. refl), tt))
+  act-shape (PanelFill c) us = drawn (panelFillStroke (c .0) ∷ []) done ((λ x y e. refl), tt)
   act-shape (Resize w h) us = resize-by (Shape b) b refused w h (unchanged _) (resized-shape w h)
   act-shape (Blit dc a src from rop) us = blit-shape dc a src from rop
+  act-shape (MoveTo dc to) us = move-by (Shape b) b refused dc to (λ e d. record-only (record { paint = refl; still = moved-still b dc to e }))
+  act-shape (LineTo dc to) us = line-by (Shape b) b refused dc to (λ e s d. strokes (movedTo b dc to) _ _ (moved-still b dc to e) ((λ x y g. refl), tt))

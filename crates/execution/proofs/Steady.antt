@@ -9,7 +9,7 @@ use Rattle.ready.proofs.Ready.{Ready}
 use Rattle.place.specs.declared.Memory.{Memory}
 use Rattle.place.specs.declared.Memory.the-variants.{Panel as PanelMemory, Store}
 use Rattle.place.specs.Place.{lengthOf}
-use Rattle.place.proofs.Same.{Still}
+use Rattle.place.proofs.Same.{Still, still-then}
 use Rattle.removal.specs.Removal.{withoutAt}
 use Rattle.removal.proofs.Sound.{removed-sound}
 use Rattle.paint.specs.Memories.{Memories, memoryOf}
@@ -61,7 +61,7 @@ range-fits b ms l k p n fits = rw (memory-length b ms l k) fits
 
 pub shape-steady : {b : GdiState} {p : Plan} → Shape b p → Steady b (p .paint) (p .outcome .state)
 shape-steady {b} {p} (record-only u) = subst (λ (ps : List Paint). Steady b ps (p .outcome .state)) (sym (u .paint)) (still-steady (u .still))
-shape-steady {b} (strokes ss a i) = and-strokes ss (dirtied-by-still ss b)
+shape-steady {b} (strokes b′ ss a t i) = and-strokes ss (still-then t (dirtied-by-still ss b′))
 shape-steady {b} (blanks b′ a k p n clears x) =
     unfold after in
     record {

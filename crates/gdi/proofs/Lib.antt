@@ -1,3 +1,4 @@
 pub mod Scan
+pub mod Range
 pub mod Lookup
 pub mod Stock

@@ -86,3 +86,23 @@ dc-found b h {i} {d} e = by-test (eqb h 0xDEAD_0DC0) e
         → (findOf b h ≡ At i) × (objectAt b i ≡ DcOf d)
     by-test true f = let z : _≡_ {A = ℕ} 0 1 = cc in absurd (omega arith)
     by-test false f = by-found (findOf b h) refl f
+
+-- the screen DC is the record's own
+pub screen-found : (b : GdiState) (h : ℕ) {d : Dc} → dcOf b h ≡ Is Screen d → b .screen ≡ d
+unfolding dcOf
+screen-found b h {d} e = by-test (eqb h 0xDEAD_0DC0) e
+  where
+    by-object : (j : ℕ) (o : GdiObject) → dcAt j o ≡ Is Screen d → ⊥
+    by-object j (DcOf x) f = let z : _≡_ {A = ℕ} 0 1 = cc in omega arith
+    by-object j (Bitmap x) f = let z : _≡_ {A = ℕ} 0 1 = cc in omega arith
+    by-object j (Brush x) f = let z : _≡_ {A = ℕ} 0 1 = cc in omega arith
+    by-object j (Pen x) f = let z : _≡_ {A = ℕ} 0 1 = cc in omega arith
+    by-object j (Font x) f = let z : _≡_ {A = ℕ} 0 1 = cc in omega arith
+
+    by-found : (q : Found) → dcFound b q ≡ Is Screen d → ⊥
+    by-found (At j) f = by-object j (objectAt b j) f
+    by-found Nothing f = let z : _≡_ {A = ℕ} 0 1 = cc in omega arith
+
+    by-test : (t : Bool) → cond t (Is Screen (b .screen)) (dcFound b (findOf b h)) ≡ Is Screen d → b .screen ≡ d
+    by-test true f = cc
+    by-test false f = absurd (by-found (findOf b h) f)

@@ -1,7 +1,9 @@
 -- The record of a device: sizes, records by their fields, fresh records, vacant slots.
-use mathlib.Core.Bool.{Bool, false}
+use mathlib.Core.Bool.{Bool, false, _&&_}
 use mathlib.Core.List.{List}
 use Prim.Native.Nat.{ℕ, _*_}
+use lib.IntN.{ℤ, pos, negsuc}
+use lib.Signed.{leZ}
 use lib.ListN.{replicate}
 use Rattle.color.specs.declared.Colorref.{Colorref}
 use Rattle.gdi.specs.declared.Bitmap.{Bitmap}
@@ -45,8 +47,8 @@ stateWith panel-len store-len width height frame-counter next-handle screen stoc
 
 -- a DC by its fields, in their order; its updates are written with it
 abbrev pub dcWith : (surface : DcSurface) (bitmap : SelectedBitmap) (brush pen font : ℕ) → (brush-color pen-color text-color : Colorref)
-    → (text-align : ℕ) (bk-color : Colorref) (bk-transparent : Bool) → Dc
-dcWith surface bitmap brush pen font brush-color pen-color text-color text-align bk-color bk-transparent =
+    → (text-align : ℕ) (bk-color : Colorref) (bk-transparent : Bool) → (x y : ℤ) → Dc
+dcWith surface bitmap brush pen font brush-color pen-color text-color text-align bk-color bk-transparent x y =
     record {
       surface = surface;
       «selected_bitmap» = bitmap;
@@ -59,9 +61,11 @@ dcWith surface bitmap brush pen font brush-color pen-color text-color text-align
       «text_align» = text-align;
       «bk_color» = bk-color;
       «bk_transparent» = bk-transparent;
+      «pos_x» = x;
+      «pos_y» = y;
     }
 
--- the record of `Dc::default`, with the given surface
+-- the record of `Dc::default`, with the given surface; its position is at first (0, 0)
 abbrev pub dcOn : DcSurface → Dc
 dcOn s =
     record {
@@ -76,7 +80,16 @@ dcOn s =
       «text_align» = 0;
       «bk_color» = record { 0 = 0x00ff_ffff };
       «bk_transparent» = false;
+      «pos_x» = pos 0;
+      «pos_y» = pos 0;
     }
+
+-- a coordinate of a position: -32,768 to 32,767
+abbrev pub inRange : ℤ → Bool
+inRange z = leZ (negsuc 32767) z && leZ z (pos 32767)
+
+abbrev pub isPosition : (x y : ℤ) → Bool
+isPosition x y = inRange x && inRange y
 
 -- a new bitmap
 abbrev pub freshBitmap : (width height : ℕ) → Bitmap
@@ -92,7 +105,7 @@ screenDc = dcOn Screen
 
 -- what the logic reads past the end of a table: an object of the first variant, all zeros
 abbrev pub noSlot : Slot
-noSlot = record { handle = 0; object = DcOf (dcWith Screen Unset 0 0 0 (record { 0 = 0 }) (record { 0 = 0 }) (record { 0 = 0 }) 0 (record { 0 = 0 }) false) }
+noSlot = record { handle = 0; object = DcOf (dcWith Screen Unset 0 0 0 (record { 0 = 0 }) (record { 0 = 0 }) (record { 0 = 0 }) 0 (record { 0 = 0 }) false (pos 0) (pos 0)) }
 
 -- what a slot without an object holds
 abbrev pub vacantSlot : Slot

@@ -2,6 +2,7 @@
 use mathlib.Core.Bool.{Bool, true}
 use mathlib.Core.List.{List}
 use Prim.Native.Nat.{ℕ}
+use lib.IntN.{ℤ}
 use lib.ListN.{set}
 use Rattle.color.specs.declared.Colorref.{Colorref}
 use Rattle.gdi.specs.declared.Bitmap.{Bitmap}
@@ -47,40 +48,46 @@ withHostDirty m = record { width = m .width; height = m .height; «host_dirty» 
 abbrev pub withBitmap : Dc → ℕ → Dc
 withBitmap d h =
     dcWith (d .surface) (Chosen h) (d .«selected_brush») (d .«selected_pen») (d .«selected_font»)
-    (d .«brush_color») (d .«pen_color») (d .«text_color») (d .«text_align») (d .«bk_color») (d .«bk_transparent»)
+    (d .«brush_color») (d .«pen_color») (d .«text_color») (d .«text_align») (d .«bk_color») (d .«bk_transparent») (d .«pos_x») (d .«pos_y»)
 
 abbrev pub withBrush : Dc → ℕ → Colorref → Dc
 withBrush d h c =
     dcWith (d .surface) (d .«selected_bitmap») h (d .«selected_pen») (d .«selected_font»)
-    c (d .«pen_color») (d .«text_color») (d .«text_align») (d .«bk_color») (d .«bk_transparent»)
+    c (d .«pen_color») (d .«text_color») (d .«text_align») (d .«bk_color») (d .«bk_transparent») (d .«pos_x») (d .«pos_y»)
 
 abbrev pub withPen : Dc → ℕ → Colorref → Dc
 withPen d h c =
     dcWith (d .surface) (d .«selected_bitmap») (d .«selected_brush») h (d .«selected_font»)
-    (d .«brush_color») c (d .«text_color») (d .«text_align») (d .«bk_color») (d .«bk_transparent»)
+    (d .«brush_color») c (d .«text_color») (d .«text_align») (d .«bk_color») (d .«bk_transparent») (d .«pos_x») (d .«pos_y»)
 
 abbrev pub withFont : Dc → ℕ → Dc
 withFont d h =
     dcWith (d .surface) (d .«selected_bitmap») (d .«selected_brush») (d .«selected_pen») h
-    (d .«brush_color») (d .«pen_color») (d .«text_color») (d .«text_align») (d .«bk_color») (d .«bk_transparent»)
+    (d .«brush_color») (d .«pen_color») (d .«text_color») (d .«text_align») (d .«bk_color») (d .«bk_transparent») (d .«pos_x») (d .«pos_y»)
 
 -- a DC with another text colour, alignment, background colour or background mode
 abbrev pub withTextColor : Dc → Colorref → Dc
 withTextColor d c =
     dcWith (d .surface) (d .«selected_bitmap») (d .«selected_brush») (d .«selected_pen») (d .«selected_font»)
-    (d .«brush_color») (d .«pen_color») c (d .«text_align») (d .«bk_color») (d .«bk_transparent»)
+    (d .«brush_color») (d .«pen_color») c (d .«text_align») (d .«bk_color») (d .«bk_transparent») (d .«pos_x») (d .«pos_y»)
 
 abbrev pub withTextAlign : Dc → ℕ → Dc
 withTextAlign d v =
     dcWith (d .surface) (d .«selected_bitmap») (d .«selected_brush») (d .«selected_pen») (d .«selected_font»)
-    (d .«brush_color») (d .«pen_color») (d .«text_color») v (d .«bk_color») (d .«bk_transparent»)
+    (d .«brush_color») (d .«pen_color») (d .«text_color») v (d .«bk_color») (d .«bk_transparent») (d .«pos_x») (d .«pos_y»)
 
 abbrev pub withBkColor : Dc → Colorref → Dc
 withBkColor d c =
     dcWith (d .surface) (d .«selected_bitmap») (d .«selected_brush») (d .«selected_pen») (d .«selected_font»)
-    (d .«brush_color») (d .«pen_color») (d .«text_color») (d .«text_align») c (d .«bk_transparent»)
+    (d .«brush_color») (d .«pen_color») (d .«text_color») (d .«text_align») c (d .«bk_transparent») (d .«pos_x») (d .«pos_y»)
 
 abbrev pub withBkMode : Dc → Bool → Dc
 withBkMode d t =
     dcWith (d .surface) (d .«selected_bitmap») (d .«selected_brush») (d .«selected_pen») (d .«selected_font»)
-    (d .«brush_color») (d .«pen_color») (d .«text_color») (d .«text_align») (d .«bk_color») t
+    (d .«brush_color») (d .«pen_color») (d .«text_color») (d .«text_align») (d .«bk_color») t (d .«pos_x») (d .«pos_y»)
+
+-- a DC with another position
+abbrev pub withPosition : Dc → (x y : ℤ) → Dc
+withPosition d x y =
+    dcWith (d .surface) (d .«selected_bitmap») (d .«selected_brush») (d .«selected_pen») (d .«selected_font»)
+    (d .«brush_color») (d .«pen_color») (d .«text_color») (d .«text_align») (d .«bk_color») (d .«bk_transparent») x y

@@ -1,8 +1,8 @@
 // The types of the device record, DCs and objects by value, and the stock objects.
 ghost use mathlib.Core.Path.{_≡_};
 ghost use mathlib.Core.Bool.{true};
-ghost use Rattle.gdi.specs.Record.{freshBitmap, dcOn, defaultDc, screenDc, vacantSlot};
-ghost use Rattle.gdi.specs.Updates.{withBitmap};
+ghost use Rattle.gdi.specs.Record.{freshBitmap, inRange, isPosition, dcOn, defaultDc, screenDc, vacantSlot};
+ghost use Rattle.gdi.specs.Updates.{withBitmap, withPosition};
 ghost use Rattle.gdi.specs.Stock.{isStock, stockKind};
 use color::Colorref;
 
@@ -61,6 +61,8 @@ pub struct Dc {
     pub text_align: u32,
     pub bk_color: Colorref,
     pub bk_transparent: bool,
+    pub pos_x: i32,
+    pub pos_y: i32,
 }
 
 // A bitmap's record; its pixels are in the store.
@@ -177,6 +179,8 @@ pub fn dc_on(surface: DcSurface) -> Dc
         text_align: 0,
         bk_color: Colorref(0x00ff_ffff),
         bk_transparent: false,
+        pos_x: 0,
+        pos_y: 0,
     }
 }
 
@@ -212,7 +216,39 @@ pub fn with_bitmap(d: Dc, handle: u32) -> Dc
         text_align: d.text_align,
         bk_color: kc,
         bk_transparent: d.bk_transparent,
+        pos_x: d.pos_x,
+        pos_y: d.pos_y,
     }
+}
+
+// Whether a coordinate of a position is in its range.
+fn in_range(z: i32) -> bool
+    ensures { λ r. ⌜ r ≡ inRange z ⌝ }
+{
+    if -32_768 <= z {
+        return z <= 32_767;
+    }
+    false
+}
+
+// Whether a point can be a position.
+pub fn is_position(x: i32, y: i32) -> bool
+    ensures { λ r. ⌜ r ≡ isPosition x y ⌝ }
+{
+    if in_range(x) {
+        return in_range(y);
+    }
+    false
+}
+
+// The DC with another position.
+pub fn with_position(d: Dc, x: i32, y: i32) -> Dc
+    ensures { λ r. ⌜ r ≡ withPosition d x y ⌝ }
+{
+    let mut after = d;
+    after.pos_x = x;
+    after.pos_y = y;
+    after
 }
 
 // The record of a new memory DC.

@@ -109,6 +109,7 @@ module _ (b : GdiState) (o : GdiObject) (sound : isSound b ≡ true) where
         width = s .width;
         height = s .height;
         panel = s .panel;
+        screen = s .screen;
         slots = all-added (b .objects) (b .count) (newSlot b o) long slotFits (together (new b sound .no-zero) (together (new b sound .no-stock) fits)) (s .slots);
         apart = distinct-added (b .objects) (b .count) (newSlot b o) long (new-absent b sound) (s .apart);
         store = rw (sum-added (b .objects) (b .count) (newSlot b o) long (λ (z : Slot). bytesOf (z .object))) (omega arith);

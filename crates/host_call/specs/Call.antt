@@ -3,7 +3,7 @@ use mathlib.Core.Bool.{cond}
 use lib.Dec.{eqb, leb}
 use Rattle.plan.specs.declared.Area.{Area}
 use Rattle.plan.specs.declared.Point.{Point}
-use Rattle.plan.specs.declared.Call.the-variants.{CreateMemoryDc, CreateCompatibleBitmap, CreateSolidBrush, CreatePen, CreateFont, Delete, Remove, SelectInto, SetTextColor, SetTextAlign, SetBkColor, SetBkMode, PatternFill, Rectangle, Text, PanelFill, Resize, Blit}
+use Rattle.plan.specs.declared.Call.the-variants.{CreateMemoryDc, CreateCompatibleBitmap, CreateSolidBrush, CreatePen, CreateFont, Delete, Remove, SelectInto, SetTextColor, SetTextAlign, SetBkColor, SetBkMode, PatternFill, Rectangle, Text, PanelFill, Resize, Blit, MoveTo, LineTo}
 use Rattle.host_call.specs.declared.HostCall.{HostCall}
 use Rattle.host_call.specs.declared.ParsedCall.{ParsedCall}
 use Rattle.host_call.specs.declared.ParsedCall.the-variants.{NoCall, Is}
@@ -38,5 +38,7 @@ callOf c =
     cond (eqb (c .call) 15) (Is (Text (c .dc) (atOf c))) (
     cond (eqb (c .call) 16) (cond (leb (c .a) 65535) (Is (PanelFill (record { 0 = c .a }))) NoCall) (
     cond (eqb (c .call) 17) (Is (Resize (c .a) (c .b))) (
-    cond (eqb (c .call) 18) (Is (Blit (c .dc) (areaOf c) (c .src) (fromOf c) (c .a)))
-    NoCall)))))))))))))))))
+    cond (eqb (c .call) 18) (Is (Blit (c .dc) (areaOf c) (c .src) (fromOf c) (c .a))) (
+    cond (eqb (c .call) 19) (Is (MoveTo (c .dc) (atOf c))) (
+    cond (eqb (c .call) 20) (Is (LineTo (c .dc) (atOf c)))
+    NoCall)))))))))))))))))))

@@ -126,6 +126,8 @@ pub fn call_of(c: HostCall) -> ParsedCall
             from,
             rop: c.a,
         }),
+        19 => ParsedCall::Is(Call::MoveTo { dc: c.dc, to: at }),
+        20 => ParsedCall::Is(Call::LineTo { dc: c.dc, to: at }),
         _ => ParsedCall::NoCall,
     }
 }

@@ -2,7 +2,7 @@
 use mathlib.Core.List.{List, [], _∷_}
 use mathlib.Core.Path.{sym, subst}
 use Rattle.gdi.specs.declared.GdiState.{GdiState}
-use Rattle.place.proofs.Same.{Still}
+use Rattle.place.proofs.Same.{Still, still-then}
 use Rattle.paint.specs.Memories.{Memories}
 use Rattle.paint.specs.Paint.{Paint, after}
 use Rattle.paint.specs.Taint.{Taint, tainted}
@@ -36,7 +36,7 @@ strokes-alike {b} (t ∷ ss) (i, is) s =
 
 pub shape-alike : {b : GdiState} {p : Plan} → Shape b p → KeepsAlike b (p .paint) (p .outcome .state)
 shape-alike {b} {p} (record-only u) = subst (λ (ps : List Paint). KeepsAlike b ps (p .outcome .state)) (sym (u .paint)) (still-alike (u .still))
-shape-alike {b} (strokes ss a i) = strokes-alike ss i (dirtied-by-still ss b)
+shape-alike {b} (strokes b′ ss a t i) = strokes-alike ss i (still-then t (dirtied-by-still ss b′))
 shape-alike {b} (blanks b′ a k p n clears x) =
     unfold after tainted in
     record {

@@ -13,7 +13,7 @@ use Rattle.gdi.specs.declared.GdiState.{GdiState}
 use Rattle.gdi.specs.declared.GdiObject.{GdiObject}
 use Rattle.gdi.specs.declared.Dc.{Dc}
 use Rattle.gdi.specs.declared.Found.the-variants.{At, Nothing}
-use Rattle.gdi.specs.Record.{size, bytesOf}
+use Rattle.gdi.specs.Record.{size, bytesOf, isPosition}
 use Rattle.gdi.specs.Stock.{isStock}
 use Rattle.gdi.specs.Lookup.{findOf}
 use Rattle.sound.specs.Sound.{used}
@@ -32,19 +32,21 @@ use Rattle.plan.specs.Answer.{Parts, refused, answered}
 use Rattle.plan.specs.declared.Area.{Area}
 use Rattle.plan.specs.declared.Point.{Point}
 use Rattle.plan.specs.declared.Call.{Call}
-use Rattle.plan.specs.declared.Call.the-variants.{Delete, Remove, PatternFill, Rectangle, Text, PanelFill, Resize, Blit}
+use Rattle.plan.specs.declared.Call.the-variants.{Delete, Remove, PatternFill, Rectangle, Text, PanelFill, Resize, Blit, LineTo}
 use Rattle.plan.specs.Plan.{Plan, recordOnly, refuse}
 use Rattle.plan.specs.Stroke.{paintsOf}
 use Rattle.plan.specs.Create.{creation, createOf, newBitmap, createBitmap}
 use Rattle.plan.specs.Delete.{deletionAt, deletionOf}
 use Rattle.plan.specs.Drawing.{patterned, boxOf, rimOf, patternFillOn, patternFill, rectangleOn, rectangle, textOn, text, blitBox, blitted, blitOn, blit}
 use Rattle.plan.specs.Panel.{noEffect, resized, resize}
+use Rattle.plan.specs.Lines.{positionOf, unlessFar, lineOf, lineOn, lineTo}
 use Rattle.plan.specs.Calls.{act, plan}
 use Rattle.plan.specs.Refusal.{numberOf}
 use Rattle.plan.proofs.Refusal.{refusals-keep}
+use Rattle.plan.proofs.Cases.{move-by}
 use Rattle.plan.proofs.Select.{select-unpainted, setting-unpainted}
 use Rattle.noninterference.specs.Claim.{taintAfter}
-use Rattle.noninterference.specs.Taint.{Creates, memory-dc, bitmap, brush, pen, font, Sets, selection, text-color, text-align, bk-color, bk-mode, byDestination, bySource, number, taintBy, ExactTaint}
+use Rattle.noninterference.specs.Taint.{Creates, memory-dc, bitmap, brush, pen, font, Sets, selection, text-color, text-align, bk-color, bk-mode, move, byDestination, bySource, number, taintBy, ExactTaint}
 
 -- a drawing without a source, and one without a code
 plain-exact : (m : Taint) (s : SurfaceId) (region : (x y : ℕ) → Bool) (t c : ℕ) → Exactly m (taintedBy (draw (patterned s region t c)) m) s region (λ x y. (usesDst t ≡ true) × m s x y)
@@ -137,6 +139,21 @@ module _ (b : GdiState) (n k : ℕ) (us : List ℕ) (m : Taint) where
       is : text b us dc at ≡ textOn b us (unitCount us) at s d
       is = shown ∙ by (leb (unitCount us) 65535) (ap numberOf (sym (accepted-plan (Text dc at) z ∙ shown)) ∙ z)
 
+  line-taint : (dc : ℕ) (to : Point) (s : SurfaceId) (i : Site) (d : Dc) → number b n k us (LineTo dc to) ≡ 0 → targetOf b dc ≡ On s i d
+      → Untaints m (taintBy b n k us m (LineTo dc to)) s (lineOf (positionOf d) to)
+  unfolding act paintsOf tainted
+  line-taint dc to s i d z e = by-plan (LineTo dc to) (accepted-plan (LineTo dc to) z ∙ is) (solid-exact m s _ _)
+    where
+      by : (t : Bool) → numberOf (cond t (lineOn b dc to s d) (refuse 11 b)) ≡ 0 → cond t (lineOn b dc to s d) (refuse 11 b) ≡ lineOn b dc to s d
+      by true z = refl
+      by false z = absurd (omega arith)
+
+      shown : lineTo b dc to ≡ unlessFar b to (lineOn b dc to s d)
+      shown = unfold lineTo in rw e
+
+      is : lineTo b dc to ≡ lineOn b dc to s d
+      is = shown ∙ by (isPosition (to .x) (to .y)) (ap numberOf (sym (accepted-plan (LineTo dc to) z ∙ shown)) ∙ z)
+
   resize-taint : (w h : ℕ) → number b n k us (Resize w h) ≡ 0 → noEffect b w h ≡ false → Untaints m (taintBy b n k us m (Resize w h)) Panel everywhere
   unfolding act tainted
   resize-taint w h z e = by-plan (Resize w h) (accepted-plan (Resize w h) z ∙ is) (blank-exact m _ _ _ Panel)
@@ -215,10 +232,11 @@ module _ (b : GdiState) (n k : ℕ) (us : List ℕ) (m : Taint) where
   act-set : {c : Call} → Sets c → act c us b .paint ≡ []
   unfolding act
   act-set (selection {dc = dc} {h = h}) = select-unpainted b dc h .paint
-  act-set (text-color {dc = dc}) = setting-unpainted _ _ (λ d. refl) b dc .paint
-  act-set (text-align {dc = dc}) = setting-unpainted _ _ (λ d. refl) b dc .paint
-  act-set (bk-color {dc = dc}) = setting-unpainted _ _ (λ d. refl) b dc .paint
-  act-set (bk-mode {dc = dc}) = setting-unpainted _ _ (λ d. refl) b dc .paint
+  act-set (text-color {dc = dc}) = setting-unpainted _ _ (λ d. record { surface = refl; position = refl }) b dc .paint
+  act-set (text-align {dc = dc}) = setting-unpainted _ _ (λ d. record { surface = refl; position = refl }) b dc .paint
+  act-set (bk-color {dc = dc}) = setting-unpainted _ _ (λ d. record { surface = refl; position = refl }) b dc .paint
+  act-set (bk-mode {dc = dc}) = setting-unpainted _ _ (λ d. record { surface = refl; position = refl }) b dc .paint
+  act-set (move {dc = dc} {to = to}) = move-by (λ p. p .paint ≡ []) b (λ i. refl) dc to (λ e d. refl)
 
   not-resized : (w h : ℕ) → noEffect b w h ≡ true → resize b w h .paint ≡ []
   unfolding resize
@@ -230,6 +248,7 @@ module _ (b : GdiState) (n k : ℕ) (us : List ℕ) (m : Taint) where
       record {
         rectangle = λ dc a s i d z e. rectangle-taint dc a s i d e z;
         text = text-taint;
+        line = line-taint;
         panel-fill = λ c z. unfold paintsOf tainted in by-plan (PanelFill c) (accepted-plan (PanelFill c) z) (solid-exact m Panel everywhere (c .0));
         resize = resize-taint;
         pattern-fill = λ dc a rop s i d z e. fill-taint dc a s i d e rop z;

@@ -25,9 +25,10 @@ use Rattle.plan.specs.Answer.{answered}
 use Rattle.plan.specs.declared.Area.{Area}
 use Rattle.plan.specs.declared.Point.{Point}
 use Rattle.plan.specs.declared.Call.{Call}
-use Rattle.plan.specs.declared.Call.the-variants.{CreateMemoryDc, CreateCompatibleBitmap, CreateSolidBrush, CreatePen, CreateFont, Delete, Remove, SelectInto, SetTextColor, SetTextAlign, SetBkColor, SetBkMode, PatternFill, Rectangle, Text, PanelFill, Resize, Blit}
+use Rattle.plan.specs.declared.Call.the-variants.{CreateMemoryDc, CreateCompatibleBitmap, CreateSolidBrush, CreatePen, CreateFont, Delete, Remove, SelectInto, SetTextColor, SetTextAlign, SetBkColor, SetBkMode, PatternFill, Rectangle, Text, PanelFill, Resize, Blit, MoveTo, LineTo}
 use Rattle.plan.specs.Drawing.{boxOf, rimOf, blitBox, columnFor, rowFor}
 use Rattle.plan.specs.Panel.{noEffect}
+use Rattle.plan.specs.Lines.{positionOf, lineOf}
 use Rattle.plan.specs.Calls.{plan}
 use Rattle.plan.specs.Refusal.{numberOf}
 use Rattle.noninterference.specs.Claim.{taintAfter}
@@ -40,13 +41,14 @@ pub data Creates : Call → Type 0 where
   pen : {c : Colorref} {w : ℕ} → Creates (CreatePen c w)
   font : {h : ℤ} → Creates (CreateFont h)
 
--- a selection or a setting
+-- a selection, a setting or a move
 pub data Sets : Call → Type 0 where
   selection : {dc h : ℕ} → Sets (SelectInto dc h)
   text-color : {dc : ℕ} {c : Colorref} → Sets (SetTextColor dc c)
   text-align : {dc v : ℕ} → Sets (SetTextAlign dc v)
   bk-color : {dc : ℕ} {c : Colorref} → Sets (SetBkColor dc c)
   bk-mode : {dc : ℕ} {t : Bool} → Sets (SetBkMode dc t)
+  move : {dc : ℕ} {to : Point} → Sets (MoveTo dc to)
 
 -- the code uses D and the pixel was tainted
 abbrev pub byDestination : Taint → (rop : ℕ) → SurfaceId → (x y : ℕ) → Type 0
@@ -68,11 +70,13 @@ module _ (b : GdiState) (panel-len store-len : ℕ) (units : List ℕ) where
 
   -- For every call and every outcome: which pixels are drawn, and which are tainted afterwards.
   pub record ExactTaint (m : Taint) : Type 0 where
-    -- pixels drawn without a code are not tainted afterwards: a fill, an outline, ink, a panel fill, an effective resize
+    -- pixels drawn without a code are not tainted afterwards: a fill, an outline, ink, a line, a panel fill, an effective resize
     pub rectangle : (dc : ℕ) (a : Area) (s : SurfaceId) (i : Site) (d : Dc) → number (Rectangle dc a) ≡ 0 → targetOf b dc ≡ On s i d
         → Untaints m (taintBy m (Rectangle dc a)) s (λ x y. boxOf a x y || rimOf a x y)
     pub text : (dc : ℕ) (at : Point) (s : SurfaceId) (i : Site) (d : Dc) → number (Text dc at) ≡ 0 → targetOf b dc ≡ On s i d
         → Untaints m (taintBy m (Text dc at)) s (textInk units (unitCount units) (at .x) (at .y))
+    pub line : (dc : ℕ) (to : Point) (s : SurfaceId) (i : Site) (d : Dc) → number (LineTo dc to) ≡ 0 → targetOf b dc ≡ On s i d
+        → Untaints m (taintBy m (LineTo dc to)) s (lineOf (positionOf d) to)
     pub panel-fill : (c : Rgb565) → number (PanelFill c) ≡ 0 → Untaints m (taintBy m (PanelFill c)) Panel everywhere
     pub resize : (w h : ℕ) → number (Resize w h) ≡ 0 → noEffect b w h ≡ false → Untaints m (taintBy m (Resize w h)) Panel everywhere
     -- under a raster code a drawn pixel is tainted afterwards exactly if the code uses D and the pixel was tainted
@@ -86,7 +90,7 @@ module _ (b : GdiState) (panel-len store-len : ℕ) (units : List ℕ) where
     pub blit-ignoring : (dc : ℕ) (a : Area) (src : ℕ) (p : Point) (rop : ℕ) (s : SurfaceId) (i : Site) (d : Dc) → number (Blit dc a src p rop) ≡ 0
         → usesSrc (tableOf rop) ≡ false → targetOf b dc ≡ On s i d
         → Exactly m (taintBy m (Blit dc a src p rop)) s (boxOf a) (byDestination m rop s)
-    -- pixels not drawn keep their taint, and a refused call keeps all: a selection, a setting, a resize without effect, and a
+    -- pixels not drawn keep their taint, and a refused call keeps all: a selection, a setting, a move, a resize without effect, and a
     -- deletion or removal of a stock or absent handle draw no pixel
     pub refused : (c : Call) → (number c ≡ 0 → ⊥) → Keeps m (taintBy m c)
     pub set : (c : Call) → Sets c → Keeps m (taintBy m c)

@@ -60,11 +60,11 @@ pub flag-flag : (f : Bool) → isFlag (flagNumber f) ≡ true
 flag-flag true = refl
 flag-flag false = refl
 
--- the numbers of a DC
-abbrev pub dcNumbers : Dc → List ℕ
-dcNumbers d =
+-- the numbers of a DC; x and y are those of its position
+abbrev pub dcNumbers : Dc → (x y : ℕ) → List ℕ
+dcNumbers d x y =
     surfaceNumber (d .surface) ∷ presentNumber (d .«selected_bitmap») ∷ bitmapNumber (d .«selected_bitmap») ∷ d .«selected_brush» ∷ d .«selected_pen»
-    ∷ d .«selected_font» ∷ d .«brush_color» .0 ∷ d .«pen_color» .0 ∷ d .«text_color» .0 ∷ d .«text_align» ∷ d .«bk_color» .0 ∷ flagNumber (d .«bk_transparent») ∷ []
+    ∷ d .«selected_font» ∷ d .«brush_color» .0 ∷ d .«pen_color» .0 ∷ d .«text_color» .0 ∷ d .«text_align» ∷ d .«bk_color» .0 ∷ flagNumber (d .«bk_transparent») ∷ x ∷ y ∷ []
 
 -- a DC is an object of kind 0
 pub dc-object : {d : Dc} {l : List ℕ} → DcCoded d l → ObjectCoded (DcOf d) 0 l

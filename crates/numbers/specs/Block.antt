@@ -17,7 +17,7 @@ use Rattle.gdi.specs.declared.Bitmap.{Bitmap as BitmapRecord}
 use Rattle.gdi.specs.declared.GdiObject.{GdiObject}
 use Rattle.gdi.specs.declared.GdiObject.the-variants.{Dc as DcOf, Bitmap, Brush, Pen, Font}
 use Rattle.gdi.specs.declared.Slot.{Slot}
-use Rattle.numbers.specs.Layout.{objectSize, handlePlace, kindPlace, objectPlace, surfaceIn, presentIn, bitmapIn, brushIn, penIn, fontIn, brushColorIn, penColorIn, textColorIn, textAlignIn, bkColorIn, bkTransparentIn, bitmapWidthIn, bitmapHeightIn, bitmapDirtyIn, colorIn, penWidthIn, fontHeightIn, bitmapSize, brushSize, penSize, fontSize}
+use Rattle.numbers.specs.Layout.{objectSize, handlePlace, kindPlace, objectPlace, surfaceIn, presentIn, bitmapIn, brushIn, penIn, fontIn, brushColorIn, penColorIn, textColorIn, textAlignIn, bkColorIn, bkTransparentIn, posXIn, posYIn, bitmapWidthIn, bitmapHeightIn, bitmapDirtyIn, colorIn, penWidthIn, fontHeightIn, bitmapSize, brushSize, penSize, fontSize}
 
 -- number k of a block
 abbrev pub at : List ℕ → ℕ → ℕ
@@ -42,7 +42,7 @@ abbrev pub bitmapOf : (present h : ℕ) → SelectedBitmap
 bitmapOf present h = cond (flagOf present) (Chosen h) Unset
 
 -- The numbers of a DC: surface, bitmap present, bitmap, brush, pen, font, brush colour, pen colour, text colour, alignment,
--- background colour, transparent.
+-- background colour, transparent, position x and y in two's complement.
 unfoldable pub dcFields : List ℕ → Dc
 dcFields l =
     record {
@@ -57,6 +57,8 @@ dcFields l =
       «text_align» = at l textAlignIn;
       «bk_color» = record { 0 = at l bkColorIn };
       «bk_transparent» = flagOf (at l bkTransparentIn);
+      «pos_x» = signed32 (at l posXIn);
+      «pos_y» = signed32 (at l posYIn);
     }
 
 -- whether numbers are a DC: flags are 0 or 1, and an absent bitmap has handle 0

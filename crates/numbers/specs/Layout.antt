@@ -3,7 +3,7 @@ use Prim.Native.Nat.{ℕ, _+_, _*_}
 
 -- how many numbers a DC has; every object has as many as the largest kind, the DC
 abbrev pub dcSize : ℕ
-dcSize = 12
+dcSize = 14
 
 abbrev pub objectSize : ℕ
 objectSize = dcSize
@@ -68,7 +68,7 @@ abbrev pub slotPlace : ℕ → ℕ
 slotPlace i = slotsPlace + slotSize * i
 
 -- in a DC: surface, bitmap present, bitmap, brush, pen, font, brush colour, pen colour, text colour, alignment, background colour,
--- transparent
+-- transparent, position x, position y
 abbrev pub surfaceIn : ℕ
 surfaceIn = 0
 
@@ -104,6 +104,12 @@ bkColorIn = 10
 
 abbrev pub bkTransparentIn : ℕ
 bkTransparentIn = 11
+
+abbrev pub posXIn : ℕ
+posXIn = 12
+
+abbrev pub posYIn : ℕ
+posYIn = 13
 
 -- in a bitmap: width, height, dirty mark; in a brush and a pen: colour; in a pen: width; in a font: height
 abbrev pub bitmapWidthIn : ℕ

@@ -17,7 +17,7 @@ use gdi::SelectedBitmap;
 use gdi::Slot;
 
 // The layout, as in specs/Layout.antt: how many numbers a DC, an object, a slot and a record have.
-pub const DC: usize = 12;
+pub const DC: usize = 14;
 
 pub const OBJECT_SIZE: usize = DC;
 
@@ -85,6 +85,10 @@ pub const BK_COLOR: usize = 10;
 
 pub const BK_TRANSPARENT: usize = 11;
 
+pub const POS_X: usize = 12;
+
+pub const POS_Y: usize = 13;
+
 // In a bitmap, a brush or pen, a pen, a font.
 pub const WIDTH_IN: usize = 0;
 
@@ -134,7 +138,7 @@ fn bitmap_of(present: u32, handle: u32) -> SelectedBitmap
 }
 
 // The integer whose two's complement is n.
-fn signed(n: u32) -> i32
+pub fn signed(n: u32) -> i32
     ensures { λ r. ⌜ r ≡ signed32 n ⌝ }
 {
     if n < 0x8000_0000 {
@@ -149,6 +153,8 @@ pub fn dc_of(numbers: &[u32]) -> Dc
 {
     let surface = surface_of(numbers[SURFACE]);
     let bitmap = bitmap_of(numbers[BITMAP_PRESENT], numbers[BITMAP]);
+    let x = signed(numbers[POS_X]);
+    let y = signed(numbers[POS_Y]);
     Dc {
         surface: surface,
         selected_bitmap: bitmap,
@@ -161,6 +167,8 @@ pub fn dc_of(numbers: &[u32]) -> Dc
         text_align: numbers[TEXT_ALIGN],
         bk_color: Colorref(numbers[BK_COLOR]),
         bk_transparent: numbers[BK_TRANSPARENT] == 1,
+        pos_x: x,
+        pos_y: y,
     }
 }
 

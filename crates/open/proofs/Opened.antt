@@ -99,6 +99,7 @@ module _ {w h n k : ℕ} (a : Accepted w h n k) where
         width = a .width;
         height = a .height;
         panel = a .panel;
+        screen = refl;
         slots = refl;
         apart = refl;
         store = rw (sum-none (λ i. bytesOf (objectAt (fresh n k w h) i))) (a .store);

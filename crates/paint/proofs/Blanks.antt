@@ -172,6 +172,7 @@ cut-sound b sound =
       width = s .width;
       height = s .height;
       panel = s .panel;
+      screen = s .screen;
       slots = s .slots;
       apart = s .apart;
       store = omega arith;

@@ -55,5 +55,7 @@ pub fn perform(
             from,
             rop,
         } => bitblt::blit(numbers, panel, store, dc, area, src, from, rop),
+        Call::MoveTo { dc, to } => line_to::move_to(numbers, dc, to),
+        Call::LineTo { dc, to } => line_to::line_to(numbers, panel, store, dc, to),
     }
 }

@@ -9,6 +9,7 @@ use Rattle.arithmetic.proofs.Test.{all-same}
 use Rattle.arithmetic.proofs.Sum.{sum-same}
 use Rattle.gdi.specs.declared.Dc.{Dc}
 use Rattle.gdi.specs.declared.DcFound.the-variants.{Is}
+use Rattle.gdi.specs.declared.Found.the-variants.{Nothing}
 use Rattle.gdi.specs.declared.GdiObject.the-variants.{Dc as DcOf}
 use Rattle.gdi.specs.declared.GdiState.{GdiState}
 use Rattle.gdi.specs.declared.Slot.{Slot}
@@ -18,14 +19,14 @@ use Rattle.gdi.specs.Record.{noSlot, bytesOf}
 use Rattle.gdi.specs.Updates.{withObjects, withDc}
 use Rattle.gdi.specs.Stock.{stockBitmap}
 use Rattle.gdi.specs.Lookup.{slotAt, handleAt, objectAt, dcOf}
-use Rattle.gdi.proofs.Scan.{scan-handle, dc-found}
-use Rattle.sound.specs.Sound.{objectFits, slotFits, absent, distinct, isSound}
+use Rattle.gdi.proofs.Scan.{scan-same, scan-handle, dc-found, screen-found}
+use Rattle.sound.specs.Sound.{positioned, objectFits, slotFits, absent, distinct, isSound}
 use Rattle.place.specs.declared.Memory.the-variants.{Store}
 use Rattle.place.specs.declared.Place.{Place}
 use Rattle.place.specs.declared.Place.the-variants.{At}
 use Rattle.place.specs.declared.SurfaceId.{SurfaceId}
 use Rattle.place.specs.declared.SurfaceId.the-variants.{Panel, Bitmap}
-use Rattle.place.specs.Place.{slotsFrom, placeFrom, locate, whereIs}
+use Rattle.place.specs.Place.{slotsFrom, placeFrom, locate, whereIs, slotFor}
 
 -- every surface of the second record lies where it lies in the first
 abbrev pub SamePlaces : GdiState → GdiState → Type 0
@@ -103,6 +104,11 @@ module _ (b : GdiState) (next : ℕ) (l : List Slot) (kept : (j : ℕ) → Kept 
         sum-same (b .count) (λ i. bytesOf (getD l i noSlot .object)) (λ i. bytesOf (objectAt b i)) (λ i lt. kept i .bytes),
       )
 
+-- The second DC keeps what soundness depends on.
+pub record SameSoundness (d₀ d : Dc) : Type 0 where
+  pub surface : d .surface ≡ d₀ .surface
+  pub position : positioned d ≡ positioned d₀
+
 -- another DC record in its slot, under its handle
 abbrev dcSlot : ℕ → Dc → Slot
 dcSlot h d = record { handle = h; object = DcOf d }
@@ -116,12 +122,12 @@ module _ (b : GdiState) (dc : ℕ) {i : ℕ} {d₀ : Dc} (d : Dc) (e : dcOf b dc
         bytes = rw (dc-found b dc e .1);
       })
 
-  dc-fits : d .surface ≡ d₀ .surface → (j : ℕ)
+  dc-fits : SameSoundness d₀ d → (j : ℕ)
       → objectFits (getD (set (b .objects) i (dcSlot dc d)) j noSlot .object) ≡ objectFits (objectAt b j)
-  dc-fits f = set-same (λ s. objectFits (s .object)) (b .objects) i (dcSlot dc d) (rw (dc-found b dc e .1, f))
+  dc-fits f = set-same (λ s. objectFits (s .object)) (b .objects) i (dcSlot dc d) (rw (dc-found b dc e .1, f .surface, f .position))
 
 module _ (b : GdiState) (dc : ℕ) {p : Spot} {d₀ : Dc} (d : Dc) where
-  -- selection and settings leave every surface where it was
+  -- selection, settings and moves leave every surface where it was
   pub updated-places : dcOf b dc ≡ Is p d₀ → SamePlaces b (withDc b dc p d)
   updated-places = by p
     where
@@ -131,10 +137,19 @@ module _ (b : GdiState) (dc : ℕ) {p : Spot} {d₀ : Dc} (d : Dc) where
       by (Created i) e u = kept-places b (b .«next_handle») (set (b .objects) i (dcSlot dc d)) (dc-kept b dc d e) u
 
   -- and keep the record sound
-  pub updated-sound : isSound b ≡ true → dcOf b dc ≡ Is p d₀ → d .surface ≡ d₀ .surface → isSound (withDc b dc p d) ≡ true
+  pub updated-sound : isSound b ≡ true → dcOf b dc ≡ Is p d₀ → SameSoundness d₀ d → isSound (withDc b dc p d) ≡ true
   unfolding isSound
   updated-sound s e f = by p e ∙ s
     where
       by : (q : Spot) → dcOf b dc ≡ Is q d₀ → isSound (withDc b dc q d) ≡ isSound b
-      by Screen e = refl
+      by Screen e = rw (f .position, ← screen-found b dc e)
       by (Created i) e = kept-sound b (b .«next_handle») (set (b .objects) i (dcSlot dc d)) (dc-kept b dc d e) (dc-fits b dc d e f)
+
+  -- and every bitmap's record in its slot
+  pub updated-slot : dcOf b dc ≡ Is p d₀ → (u : SurfaceId) → slotFor (withDc b dc p d) u ≡ slotFor b u
+  updated-slot = by p
+    where
+      by : (q : Spot) → dcOf b dc ≡ Is q d₀ → (u : SurfaceId) → slotFor (withDc b dc q d) u ≡ slotFor b u
+      by q e Panel = refl
+      by Screen e (Bitmap h) = refl
+      by (Created i) e (Bitmap h) = ap (cond (eqb h stockBitmap) Nothing) (scan-same (b .objects) (set (b .objects) i (dcSlot dc d)) h 0 (b .count) (λ j. dc-kept b dc d e j .handle))

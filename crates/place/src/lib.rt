@@ -9,7 +9,8 @@ ghost use Rattle.numbers.specs.Block.{at, objectOf};
 ghost use Rattle.numbers.specs.View.{view, isRecord};
 ghost use Rattle.sound.specs.Sound.{isSound};
 ghost use Rattle.gdi.specs.declared.Found.the-variants.{Nothing};
-ghost use Rattle.place.specs.Place.{placeFrom, targetOf};
+ghost use Rattle.gdi.specs.declared.DcFound.the-variants.{Is};
+ghost use Rattle.place.specs.Place.{placeFrom, targetFound, targetOf};
 ghost use Rattle.place.specs.Inner.{Located, SiteFound};
 use gdi::Dc;
 use gdi::DcFound;
@@ -131,27 +132,36 @@ pub fn target_of(numbers: &[u32], dc: u32) -> Target
     ensures { λ r. ⌜ r ≡ targetOf (view (now (numbers .entry))) dc ⌝ }
 {
     match lookup::find_dc(numbers, dc) {
-        DcFound::Is(p, d) => match p {
-            Spot::Screen => {
-                let site = where_is(numbers, SurfaceId::Panel);
-                Target::On(SurfaceId::Panel, site, d)
-            }
-            Spot::Created(_) => {
-                let k = d.selected_bitmap;
-                match k {
-                    SelectedBitmap::Unset => Target::NoSurface,
-                    SelectedBitmap::Chosen(h) => {
-                        let s = SurfaceId::Bitmap(h);
-                        let site = where_is(numbers, s);
-                        let at = site.at;
-                        match at {
-                            Place::Nowhere => Target::NoSurface,
-                            Place::At(_, _, _, _) => Target::On(s, site, d),
-                        }
+        DcFound::Is(p, d) => target_at(numbers, p, d),
+        DcFound::Absent => Target::NoDc,
+    }
+}
+
+// The same for a DC that was found at p.
+pub fn target_at(numbers: &[u32], p: Spot, d: Dc) -> Target
+    requires { ⌜ isRecord (now numbers) ≡ true ⌝ }
+    requires { ⌜ isSound (view (now numbers)) ≡ true ⌝ }
+    ensures { λ r. ⌜ r ≡ targetFound (view (now (numbers .entry))) (Is p d) ⌝ }
+{
+    match p {
+        Spot::Screen => {
+            let site = where_is(numbers, SurfaceId::Panel);
+            Target::On(SurfaceId::Panel, site, d)
+        }
+        Spot::Created(_) => {
+            let k = d.selected_bitmap;
+            match k {
+                SelectedBitmap::Unset => Target::NoSurface,
+                SelectedBitmap::Chosen(h) => {
+                    let s = SurfaceId::Bitmap(h);
+                    let site = where_is(numbers, s);
+                    let at = site.at;
+                    match at {
+                        Place::Nowhere => Target::NoSurface,
+                        Place::At(_, _, _, _) => Target::On(s, site, d),
                     }
                 }
             }
-        },
-        DcFound::Absent => Target::NoDc,
+        }
     }
 }

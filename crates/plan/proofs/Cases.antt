@@ -1,4 +1,4 @@
--- A property of every refusal and of every accepted drawing is one of every drawing call. Assumes nothing.
+-- A property of every refusal and of every accepted call is one of every drawing call and every move. Assumes nothing.
 use mathlib.Core.Bool.{Bool, true, false, cond, _&&_, _||_}
 use mathlib.Core.List.{List}
 use mathlib.Core.Path.{_≡_, refl}
@@ -12,7 +12,10 @@ use Rattle.surface.specs.Refusal.{side}
 use Rattle.text.specs.Ink.{unitCount}
 use Rattle.gdi.specs.declared.GdiState.{GdiState}
 use Rattle.gdi.specs.declared.Dc.{Dc}
-use Rattle.gdi.specs.Record.{size}
+use Rattle.gdi.specs.declared.DcFound.{DcFound}
+use Rattle.gdi.specs.declared.DcFound.the-variants.{Is, Absent}
+use Rattle.gdi.specs.Record.{size, isPosition}
+use Rattle.gdi.specs.Lookup.{dcOf}
 use Rattle.place.specs.declared.SurfaceId.{SurfaceId}
 use Rattle.place.specs.declared.Target.{Target}
 use Rattle.place.specs.declared.Target.the-variants.{NoDc, NoSurface, On}
@@ -23,6 +26,7 @@ use Rattle.plan.specs.Answer.{done}
 use Rattle.plan.specs.Plan.{Plan, recordOnly, refuse}
 use Rattle.plan.specs.Drawing.{onTarget, onSource, patternFillOn, patternFill, rectangleOn, rectangle, textOn, text, blitOn, blit}
 use Rattle.plan.specs.Panel.{resized, resize}
+use Rattle.plan.specs.Lines.{unlessFar, moveOn, moveAt, moveTo, lineOn, lineTo}
 
 module _ {ℓ} (P : Plan → Type ℓ) (b : GdiState) (refused : (n : ℕ) → P (refuse n b)) where
   on-target : (q : Target) (f : SurfaceId → Dc → Plan) → ((s : SurfaceId) (d : Dc) → P (f s d)) → P (onTarget b q f)
@@ -51,6 +55,25 @@ module _ {ℓ} (P : Plan → Type ℓ) (b : GdiState) (refused : (n : ℕ) → P
       by : (s : SurfaceId) (d : Dc) (t : Bool) → P (cond t (textOn b us (unitCount us) at s d) (refuse 10 b))
       by s d true = k s d
       by s d false = refused 10
+
+  unless-far : (to : Point) {p : Plan} → (isPosition (to .x) (to .y) ≡ true → P p) → P (unlessFar b to p)
+  unless-far to {p} k = by (isPosition (to .x) (to .y)) refl
+    where
+      by : (t : Bool) → isPosition (to .x) (to .y) ≡ t → P (cond t p (refuse 11 b))
+      by true e = k e
+      by false e = refused 11
+
+  pub move-by : (dc : ℕ) (to : Point) → (isPosition (to .x) (to .y) ≡ true → (d : Dc) → P (moveOn b dc to d)) → P (moveTo b dc to)
+  unfolding moveTo
+  move-by dc to k = by (dcOf b dc)
+    where
+      by : (q : DcFound) → P (moveAt b dc to q)
+      by (Is p d) = unless-far to (λ e. k e d)
+      by Absent = refused 1
+
+  pub line-by : (dc : ℕ) (to : Point) → (isPosition (to .x) (to .y) ≡ true → (s : SurfaceId) (d : Dc) → P (lineOn b dc to s d)) → P (lineTo b dc to)
+  unfolding lineTo
+  line-by dc to k = on-target (targetOf b dc) (λ s d. unlessFar b to (lineOn b dc to s d)) (λ s d. unless-far to (λ e. k e s d))
 
   pub blit-by : (dc : ℕ) (a : Area) (src : ℕ) (p : Point) (rop : ℕ) → ((s : SurfaceId) (d : Dc) → P (patternFillOn b a (tableOf rop) s d))
       → ((s : SurfaceId) (d : Dc) (q : SurfaceId) → P (blitOn b a p (tableOf rop) s d q)) → P (blit b dc a src p rop)

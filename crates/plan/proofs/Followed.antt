@@ -9,13 +9,14 @@ use Rattle.gdi.specs.declared.GdiState.{GdiState}
 use Rattle.numbers.specs.Layout.{slotPlace}
 use Rattle.numbers.specs.View.{view, isRecord, Updated}
 use Rattle.numbers.proofs.Kept.{updated-same}
+use Rattle.place.proofs.Same.{Still}
 use Rattle.paint.specs.Memories.{Memories, memories}
 use Rattle.paint.specs.Paint.{after}
 use Rattle.plan.specs.Answer.{Parts, refused}
 use Rattle.plan.specs.Plan.{Outcome, Plan, recordOnly, refuse}
 use Rattle.plan.specs.Stroke.{Stroke, dirtiedBy, paintsOf, drawnBy}
 use Rattle.plan.specs.Followed.{Followed, Slice}
-use Rattle.plan.proofs.Strokes.{Stroked, dirtied-by-count, stroked-then}
+use Rattle.plan.proofs.Strokes.{Stroked, dirtied-by-count, same-drawings, stroked-then}
 
 -- Strokes were made on a flat record.
 pub record StrokedOn (l : List ℕ) (ss : List Stroke) (ms : Memories) (l′ : List ℕ) (ms′ : Memories) : Type 0 where
@@ -78,3 +79,11 @@ stroked-on-then {l} {l₁} {l′} {ss} {ts} x y =
 -- a call that made the strokes of its plan
 pub strokes-followed : {p : Plan} {l l′ : List ℕ} {ss : List Stroke} {ms ms′ : Memories} {a : Parts} → a .number ≡ 0 → p ≡ drawnBy (view l) ss a → StrokedOn l ss ms l′ ms′ → Followed p l ms a l′ ms′
 strokes-followed z e x = acceptance z (ap (λ (q : Plan). q .outcome) e) (x .numbers) (rw e (x .memories))
+
+-- the same of a call that first changed the record, with every surface in its place
+pub updated-strokes : {p : Plan} {l l₁ l′ : List ℕ} {b : GdiState} {ss : List Stroke} {ms ms′ : Memories} {a : Parts} → a .number ≡ 0 → p ≡ drawnBy b ss a → Still (view l) b
+    → Updated l b l₁ → StrokedOn l₁ ss ms l′ ms′ → Followed p l ms a l′ ms′
+updated-strokes {l = l} {l₁ = l₁} {l′ = l′} {b = b} {ss = ss} {ms = ms} z e t u x =
+    acceptance z (ap (λ (q : Plan). q .outcome) e)
+    (subst (λ (r : GdiState). Updated l (dirtiedBy r ss) l′) (u .same) (updated-twice (dirtied-by-count ss (view l₁) ∙ ap (λ (r : GdiState). r .count) (u .same)) u (x .numbers)))
+    (rw e (x .memories ∙ ap (λ (r : GdiState). after r (paintsOf ss) ms) (u .same) ∙ same-drawings (view l) b (t .places) ss ms))

@@ -18,7 +18,7 @@ use Rattle.gdi.specs.Lookup.{findOf, dcOf, kindOf}
 use Rattle.sound.specs.Sound.{used}
 use Rattle.ready.specs.Ready.{commonRefusal}
 use Rattle.plan.specs.declared.Call.{Call}
-use Rattle.plan.specs.declared.Call.the-variants.{CreateMemoryDc, CreateCompatibleBitmap, CreateSolidBrush, CreatePen, CreateFont, Delete, Remove, SelectInto, SetTextColor, SetTextAlign, SetBkColor, SetBkMode, PatternFill, Rectangle, Text, PanelFill, Resize, Blit}
+use Rattle.plan.specs.declared.Call.the-variants.{CreateMemoryDc, CreateCompatibleBitmap, CreateSolidBrush, CreatePen, CreateFont, Delete, Remove, SelectInto, SetTextColor, SetTextAlign, SetBkColor, SetBkMode, PatternFill, Rectangle, Text, PanelFill, Resize, Blit, MoveTo, LineTo}
 use Rattle.plan.specs.Answer.{Parts, answered}
 use Rattle.plan.specs.Plan.{Plan, recordOnly, refuse}
 use Rattle.plan.specs.Create.{creation, newBitmap, createOf, createBitmap}
@@ -27,7 +27,7 @@ use Rattle.plan.specs.Select.{isOther, selectAt, selectInto}
 use Rattle.plan.specs.Settings.{settingAt, setting}
 use Rattle.plan.specs.Calls.{act, plan}
 use Rattle.plan.specs.Refusal.{numberOf, RefusalsKeep}
-use Rattle.plan.proofs.Cases.{pattern-fill-by, rectangle-by, text-by, blit-by, resize-by}
+use Rattle.plan.proofs.Cases.{pattern-fill-by, rectangle-by, text-by, move-by, line-by, blit-by, resize-by}
 
 -- a plan that changes nothing if it refuses
 record Keeps (b : GdiState) (p : Plan) : Type 0 where
@@ -105,6 +105,8 @@ call (Text dc at) us b = text-by (Keeps b) b (refusal b) us dc at (λ s d. accep
 call (PanelFill c) us b = accepted b _ refl
 call (Resize w h) us b = resize-by (Keeps b) b (refusal b) w h (accepted b _ refl) (λ e f g. accepted b _ refl)
 call (Blit dc a src from rop) us b = blit-by (Keeps b) b (refusal b) dc a src from rop (λ s d. accepted b _ refl) (λ s d q. accepted b _ refl)
+call (MoveTo dc to) us b = move-by (Keeps b) b (refusal b) dc to (λ e d. accepted b _ refl)
+call (LineTo dc to) us b = line-by (Keeps b) b (refusal b) dc to (λ e s d. accepted b _ refl)
 
 pub refusals-keep : RefusalsKeep
 unfolding plan

@@ -59,7 +59,7 @@ module _ (b b′ : GdiState) (e : SamePlaces b b′) where
   unfolding paintedBy
   same-drawing d ms = ap₂ (λ (at : Place) (s : ℕ → ℕ → ℕ). over at (drawnBytes d s (widthOf at)) ms) (e (d .target)) (same-operand ms (d .source))
 
-  same-drawings : (ss : List Stroke) (ms : Memories) → after b′ (paintsOf ss) ms ≡ after b (paintsOf ss) ms
+  pub same-drawings : (ss : List Stroke) (ms : Memories) → after b′ (paintsOf ss) ms ≡ after b (paintsOf ss) ms
   unfolding after paintsOf
   same-drawings [] ms = refl
   same-drawings (s ∷ ss) ms = ap (after b′ (paintsOf ss)) (same-drawing (s .drawing) ms) ∙ same-drawings ss (paintedBy b (draw (s .drawing)) ms)

@@ -35,7 +35,7 @@ use Rattle.dirty.specs.Dirty.{nextFrame, createdDirtied, dirtied, dirtiedIf}
 use Rattle.handles.specs.Handles.{inserted, added}
 use Rattle.removal.specs.Removal.{withoutAt}
 use Rattle.plan.specs.declared.Call.{Call}
-use Rattle.plan.specs.declared.Call.the-variants.{CreateMemoryDc, CreateCompatibleBitmap, CreateSolidBrush, CreatePen, CreateFont, Delete, Remove, SelectInto, SetTextColor, SetTextAlign, SetBkColor, SetBkMode, PatternFill, Rectangle, Text, PanelFill, Resize, Blit}
+use Rattle.plan.specs.declared.Call.the-variants.{CreateMemoryDc, CreateCompatibleBitmap, CreateSolidBrush, CreatePen, CreateFont, Delete, Remove, SelectInto, SetTextColor, SetTextAlign, SetBkColor, SetBkMode, PatternFill, Rectangle, Text, PanelFill, Resize, Blit, MoveTo, LineTo}
 use Rattle.plan.specs.Answer.{Parts, answered}
 use Rattle.plan.specs.Plan.{Plan, recordOnly, refuse}
 use Rattle.plan.specs.Stroke.{Stroke, dirtiedBy}
@@ -43,9 +43,11 @@ use Rattle.plan.specs.Create.{creation, newBitmap, createOf, createBitma
 use Rattle.plan.specs.Delete.{deletionAt, deletionOf}
 use Rattle.plan.specs.Select.{isOther, selectAt, selectInto}
 use Rattle.plan.specs.Settings.{settingAt, setting}
+use Rattle.plan.specs.declared.Point.{Point}
+use Rattle.plan.specs.Lines.{movedAt, movedTo}
 use Rattle.plan.specs.Calls.{act, plan}
 use Rattle.plan.specs.Vacant.{Vacant, StaysVacant}
-use Rattle.plan.proofs.Cases.{pattern-fill-by, rectangle-by, text-by, blit-by, resize-by}
+use Rattle.plan.proofs.Cases.{pattern-fill-by, rectangle-by, text-by, move-by, line-by, blit-by, resize-by}
 
 -- a slot after the inserted one
 behind : (l : List Slot) (n : ℕ) (s : Slot) → n ≤ length l → (i : ℕ) → n < i → getD (inserted l n s) i noSlot ≡ getD l i noSlot
@@ -129,6 +131,13 @@ module _ (b : GdiState) (sound : Sound b) (v : Vacant b) where
       by (Is p d) e = updated-vacant dc p d _ e
       by Absent e = v
 
+  moved-vacant : (dc : ℕ) (to : Point) → Vacant (movedTo b dc to)
+  moved-vacant dc to = by (dcOf b dc) refl
+    where
+      by : (q : DcFound) → dcOf b dc ≡ q → Vacant (movedAt b dc to q)
+      by (Is p d) e = updated-vacant dc p d _ e
+      by Absent e = v
+
 -- a dirty mark is made
 next-frame-vacant : (b : GdiState) → Vacant b → Vacant (nextFrame b)
 next-frame-vacant b v = record { table = v .table; vacant = v .vacant }
@@ -183,6 +192,8 @@ module _ (b : GdiState) (sound : Sound b) (v : Vacant b) where
   act-vacant (PanelFill c) us = strokes-vacant _ b v
   act-vacant (Resize w h) us = resize-by After b none w h v (λ e f g. dirtied-vacant (withSides b w h) Panel (record { table = v .table; vacant = v .vacant }))
   act-vacant (Blit dc a src from rop) us = blit-by After b none dc a src from rop (λ s d. strokes-vacant _ b v) (λ s d q. strokes-vacant _ b v)
+  act-vacant (MoveTo dc to) us = move-by After b none dc to (λ e d. moved-vacant b sound v dc to)
+  act-vacant (LineTo dc to) us = line-by After b none dc to (λ e s d. strokes-vacant _ (movedTo b dc to) (moved-vacant b sound v dc to))
 
 pub stays-vacant : StaysVacant
 unfolding plan

@@ -10,7 +10,7 @@ use Rattle.gdi.specs.Record.{defaultDc}
 use Rattle.numbers.specs.View.{view, isRecord}
 use Rattle.ready.specs.Ready.{commonRefusal}
 use Rattle.plan.specs.declared.Call.{Call}
-use Rattle.plan.specs.declared.Call.the-variants.{CreateMemoryDc, CreateCompatibleBitmap, CreateSolidBrush, CreatePen, CreateFont, Delete, Remove, SelectInto, SetTextColor, SetTextAlign, SetBkColor, SetBkMode, PatternFill, Rectangle, Text, PanelFill, Resize, Blit}
+use Rattle.plan.specs.declared.Call.the-variants.{CreateMemoryDc, CreateCompatibleBitmap, CreateSolidBrush, CreatePen, CreateFont, Delete, Remove, SelectInto, SetTextColor, SetTextAlign, SetBkColor, SetBkMode, PatternFill, Rectangle, Text, PanelFill, Resize, Blit, MoveTo, LineTo}
 use Rattle.paint.specs.Memories.{Memories}
 use Rattle.plan.specs.Plan.{Plan, refuse}
 use Rattle.plan.specs.Create.{createOf, createBitmap}
@@ -19,6 +19,7 @@ use Rattle.plan.specs.Select.{selectInto}
 use Rattle.plan.specs.Settings.{setTextColor, setTextAlign, setBkColor, setBkMode}
 use Rattle.plan.specs.Drawing.{patternFill, rectangle, text, blit}
 use Rattle.plan.specs.Panel.{panelFill, resize}
+use Rattle.plan.specs.Lines.{moveTo, lineTo}
 
 -- the plan of a call on a ready device; units are those of a text
 unfoldable pub act : Call → (units : List ℕ) → GdiState → Plan
@@ -40,6 +41,8 @@ act (Text dc at) us b = text b us dc at
 act (PanelFill c) us b = panelFill b (c .0)
 act (Resize w h) us b = resize b w h
 act (Blit dc a src from rop) us b = blit b dc a src from rop
+act (MoveTo dc to) us b = moveTo b dc to
+act (LineTo dc to) us b = lineTo b dc to
 
 -- the plan of a call, from the record and the memories' lengths: 9 and 8 come before all else
 unfoldable pub plan : Call → (units : List ℕ) → GdiState → (panel-len store-len : ℕ) → Plan

@@ -76,6 +76,14 @@ pub enum Call {
         from: Point,
         rop: u32,
     },
+    MoveTo {
+        dc: u32,
+        to: Point,
+    },
+    LineTo {
+        dc: u32,
+        to: Point,
+    },
 }
 
 // What a call answers.
@@ -93,6 +101,8 @@ pub enum Answer {
     OldColor(Colorref),
     OldAlign(u32),
     OldMode(bool),
+    // The DC's old position.
+    OldPosition(Point),
     // The drawing was accepted, even if it covered no pixel.
     Drawn,
     // The text's advance: 6 times its units.

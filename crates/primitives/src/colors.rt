@@ -4,7 +4,7 @@ use crate::line::Reply;
 use color::Colorref;
 use color::Rgb555;
 use color::Rgb565;
-use lines::Line;
+use output::Line;
 ghost use mathlib.Core.Path.{_≡_};
 ghost use Prim.Native.Nat.{_+_, _≤_, _<_};
 ghost use lib.ListN.{length};

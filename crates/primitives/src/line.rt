@@ -1,5 +1,5 @@
 // What a case prints.
-use lines::Line;
+use output::Line;
 ghost use mathlib.Core.Path.{_≡_};
 ghost use Prim.Native.Nat.{_<_};
 
@@ -15,7 +15,7 @@ pub fn bad() -> Reply
 {
     Reply {
         size: 0,
-        line: lines::empty(),
+        line: output::empty(),
     }
 }
 
@@ -23,7 +23,7 @@ pub fn bad() -> Reply
 pub fn start(kind: u8) -> Line
     ensures { λ r. ⌜ r .len ≡ 2 ⌝ }
 {
-    lines::empty().hex2(kind)
+    output::empty().hex2(kind)
 }
 
 // Prints the line with its end, if it is shown.

@@ -1,7 +1,7 @@
 // The memory that surfaces lie in, 153,600 bytes: the surface, what of it is lent, and cases 10 and 18, which set them.
 use crate::line;
 use crate::line::Reply;
-use lines::Line;
+use output::Line;
 ghost use mathlib.Core.Path.{_≡_};
 ghost use Prim.Native.Nat.{_+_, _*_, _≤_};
 ghost use lib.ListN.{length};

@@ -12,7 +12,7 @@ use Rattle.numbers.specs.Block.{at}
 use Rattle.numbers.specs.View.{view, isRecord}
 use Rattle.well_formed.specs.Inner.{isHead, areSlots}
 use Rattle.well_formed.proofs.Tested.{head-and-slots}
-use Rattle.sound.specs.Sound.{limit, slotsFit, distinct, used, isSound}
+use Rattle.sound.specs.Sound.{limit, positioned, slotsFit, distinct, used, isSound}
 use Rattle.sound.proofs.Sound.{Sound, sound-if-room, unsound}
 
 pub panel-seen : (l : List ℕ) → size (view l .width) (view l .height) ≤ view l .«panel_len» → 2 * (at l widthPlace * at l heightPlace) ≤ at l panelLenPlace
@@ -21,7 +21,7 @@ panel-seen l h = h
 
 -- the last test, where the other parts hold
 pub sound-seen : (l : List ℕ) {end : ℕ} → at l panelLenPlace ≤ limit → at l storeLenPlace ≤ limit → at l countPlace ≤ 256 → side (at l widthPlace) ≡ true → side (at l heightPlace) ≡ true
-    → 2 * (at l widthPlace * at l heightPlace) ≤ at l panelLenPlace → slotsFit (view l) ≡ true → distinct (view l .objects) (view l .count) ≡ true → end ≡ used (view l)
+    → 2 * (at l widthPlace * at l heightPlace) ≤ at l panelLenPlace → positioned (view l .screen) ≡ true → slotsFit (view l) ≡ true → distinct (view l .objects) (view l .count) ≡ true → end ≡ used (view l)
     → leb end (at l storeLenPlace) ≡ isSound (view l)
 unfolding view
 sound-seen l = sound-if-room (view l)

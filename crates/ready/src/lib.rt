@@ -11,6 +11,7 @@ ghost use Rattle.ready.specs.Ready.{commonRefusalOn, panelRefusalOn};
 use numbers::COUNT;
 use numbers::HEIGHT;
 use numbers::PANEL_LEN;
+use numbers::SCREEN;
 use numbers::SLOT;
 use numbers::SLOTS;
 use numbers::STORE_LEN;
@@ -49,6 +50,9 @@ fn is_sound(numbers: &[u32]) -> bool
         return false;
     }
     if !handles_differ(numbers, s.ascending) {
+        return false;
+    }
+    if !sound::is_positioned(numbers, SCREEN) {
         return false;
     }
     end <= store_len

@@ -10,8 +10,8 @@ ghost use Rattle.numbers.specs.Layout.{recordSize};
 use harness::LONGEST;
 use tried::Verdict;
 
-// `REC1`
-const MAGIC: u32 = 0x5245_4331;
+// `REC2`
+const MAGIC: u32 = 0x5245_4332;
 
 // Reads the stream, and tries its records.
 fn main() {
@@ -26,7 +26,7 @@ fn run(s: &[u8]) {
         let mut numbers = [0u32; numbers::RECORD];
         try_all(s, &mut numbers);
     } else {
-        lines::empty().text(b"bad script").print();
+        output::empty().text(b"bad script").print();
     }
 }
 
@@ -50,7 +50,7 @@ fn try_all(s: &[u8], numbers: &mut [u32])
     while at < s.len() {
         let case = read::record(s, at, numbers);
         if case.bad {
-            lines::empty().text(b"bad record").print();
+            output::empty().text(b"bad record").print();
             return;
         }
         print_verdict(i, tried::on_memories(numbers, case));
@@ -61,7 +61,7 @@ fn try_all(s: &[u8], numbers: &mut [u32])
 
 // Prints the line of record i.
 fn print_verdict(i: u64, verdict: Verdict) {
-    let line = lines::empty().text(b"record ").decimal(i).space();
+    let line = output::empty().text(b"record ").decimal(i).space();
     match verdict {
         Verdict::Number(no) => line.decimal(no as u64).print(),
         Verdict::Changed => line.text(b"changed").print(),

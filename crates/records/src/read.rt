@@ -23,7 +23,7 @@ use numbers::SLOTS;
 pub const MOST_LENT: usize = 65_536;
 
 // The bytes before a record's slots.
-const HEAD: usize = 48;
+const HEAD: usize = 56;
 
 // The lengths of the memories lent with a record, and the byte behind it; or a bad one.
 pub struct Case {
@@ -64,7 +64,7 @@ pub fn record(s: &[u8], at: usize, numbers: &mut [u32]) -> Case
     if n - at < HEAD {
         return bad(n);
     }
-    let given = bigendian::read_u16(s, at + 46) as usize;
+    let given = bigendian::read_u16(s, at + 54) as usize;
     if s[at + 36] > 1 {
         return bad(n);
     }
@@ -122,7 +122,7 @@ fn lent(s: &[u8], at: usize) -> Case
 
 // Puts the numbers in front of a record's slots, read from `at` on.
 fn put_head(s: &[u8], at: usize, numbers: &mut [u32])
-    requires { ⌜ (at + 48 ≤ length (now s)) × (length (now numbers) ≡ recordSize) ⌝ }
+    requires { ⌜ (at + 56 ≤ length (now s)) × (length (now numbers) ≡ recordSize) ⌝ }
 {
     put_sizes(s, at, numbers);
     put_counters(s, at, numbers);
@@ -131,7 +131,7 @@ fn put_head(s: &[u8], at: usize, numbers: &mut [u32])
 
 // Puts the memories' lengths and the panel's sides.
 fn put_sizes(s: &[u8], at: usize, numbers: &mut [u32])
-    requires { ⌜ (at + 48 ≤ length (now s)) × (length (now numbers) ≡ recordSize) ⌝ }
+    requires { ⌜ (at + 56 ≤ length (now s)) × (length (now numbers) ≡ recordSize) ⌝ }
 {
     numbers[numbers::PANEL_LEN] = read_most(s, at);
     numbers[numbers::STORE_LEN] = read_most(s, at + 8);
@@ -141,19 +141,22 @@ fn put_sizes(s: &[u8], at: usize, numbers: &mut [u32])
 
 // Puts the frame counter, the next handle and the count.
 fn put_counters(s: &[u8], at: usize, numbers: &mut [u32])
-    requires { ⌜ (at + 48 ≤ length (now s)) × (length (now numbers) ≡ recordSize) ⌝ }
+    requires { ⌜ (at + 56 ≤ length (now s)) × (length (now numbers) ≡ recordSize) ⌝ }
 {
     numbers[numbers::FRAMES_HIGH] = bigendian::read_u32(s, at + 24);
     numbers[numbers::FRAMES_LOW] = bigendian::read_u32(s, at + 28);
     numbers[numbers::NEXT_HANDLE] = bigendian::read_u32(s, at + 32);
-    numbers[numbers::COUNT] = read_most(s, at + 38);
+    numbers[numbers::COUNT] = read_most(s, at + 46);
 }
 
-// Puts the stock bitmap's mark, and the screen DC with its surface.
+// Puts the stock bitmap's mark, and the screen DC with its surface and position.
 fn put_flags(s: &[u8], at: usize, numbers: &mut [u32])
-    requires { ⌜ (at + 48 ≤ length (now s)) × (length (now numbers) ≡ recordSize) ⌝ }
+    requires { ⌜ (at + 56 ≤ length (now s)) × (length (now numbers) ≡ recordSize) ⌝ }
 {
-    let screen = gdi::dc_on(surface_of(s[at + 37]));
+    let fresh = gdi::dc_on(surface_of(s[at + 37]));
+    let x = bigendian::read_i32(s, at + 38);
+    let y = bigendian::read_i32(s, at + 42);
+    let screen = gdi::with_position(fresh, x, y);
     encode::put_dc(&mut numbers[SCREEN..SLOTS], screen);
     numbers[numbers::STOCK_DIRTY] = numbers::flag_number(s[at + 36] == 1);
 }
@@ -228,7 +231,7 @@ fn dc_slot(s: &[u8], at: usize) -> SlotRead
     requires { ⌜ at ≤ length (now s) ⌝ }
     ensures { λ r. ⌜ SlotWithin at (length (now (s .entry))) r ⌝ }
 {
-    if s.len() - at < 44 {
+    if s.len() - at < 52 {
         return SlotRead::Bad;
     }
     if s[at + 5] > 1 {
@@ -242,12 +245,12 @@ fn dc_slot(s: &[u8], at: usize) -> SlotRead
     }
     let handle = bigendian::read_u32(s, at);
     let object = GdiObject::Dc(read_dc(s, at));
-    SlotRead::Is(Slot { handle, object }, at + 44)
+    SlotRead::Is(Slot { handle, object }, at + 52)
 }
 
 // The DC whose slot is at `at`.
 fn read_dc(s: &[u8], at: usize) -> Dc
-    requires { ⌜ at + 44 ≤ length (now s) ⌝ }
+    requires { ⌜ at + 52 ≤ length (now s) ⌝ }
 {
     let surface = surface_of(s[at + 5]);
     let selected_bitmap = bitmap_of(s[at + 6], bigendian::read_u32(s, at + 7));
@@ -264,12 +267,14 @@ fn read_dc(s: &[u8], at: usize) -> Dc
         text_align: set.align,
         bk_color: Colorref(set.bk),
         bk_transparent: set.transparent,
+        pos_x: bigendian::read_i32(s, at + 44),
+        pos_y: bigendian::read_i32(s, at + 48),
     }
 }
 
 // The colours and settings of the DC whose slot is at `at`.
 fn read_settings(s: &[u8], at: usize) -> Settings
-    requires { ⌜ at + 44 ≤ length (now s) ⌝ }
+    requires { ⌜ at + 52 ≤ length (now s) ⌝ }
 {
     Settings {
         brush: bigendian::read_u32(s, at + 23),

@@ -16,8 +16,8 @@ use plan::Area;
 use plan::Call;
 use plan::Point;
 
-// The number of tries: each of the eighteen calls, and blit with a second code.
-const TRIES: u8 = 19;
+// The number of tries: each of the twenty calls, and blit with a second code.
+const TRIES: u8 = 21;
 
 // The units of the text.
 const UNITS: [u16; 3] = [0x52, 0x41, 0x56];
@@ -170,7 +170,8 @@ fn call(k: u8) -> Call {
         5 => Call::Delete(GDI_HANDLE_BASE),
         6 => Call::Remove(GDI_HANDLE_BASE),
         7..=11 => setting_call(k, GDI_SCREEN_DC, color),
-        _ => drawing_call(k, GDI_SCREEN_DC, GDI_HANDLE_BASE),
+        12..=18 => drawing_call(k, GDI_SCREEN_DC, GDI_HANDLE_BASE),
+        _ => line_call(k, GDI_SCREEN_DC),
     }
 }
 
@@ -191,7 +192,7 @@ fn setting_call(k: u8, dc: u32, color: Colorref) -> Call {
     }
 }
 
-// The call of try k, from 12 on: those that draw, on the screen and on what may be a DC of the record.
+// The call of try k, from 12 to 18: those that draw, on the screen and on what may be a DC of the record.
 fn drawing_call(k: u8, dc: u32, other: u32) -> Call {
     let area = Area {
         x: -1,
@@ -227,5 +228,14 @@ fn drawing_call(k: u8, dc: u32, other: u32) -> Call {
             from: at,
             rop: rop3::DSTINVERT,
         },
+    }
+}
+
+// The call of try k, from 19 on: a move and a line.
+fn line_call(k: u8, dc: u32) -> Call {
+    let to = Point { x: 1, y: 2 };
+    match k {
+        19 => Call::MoveTo { dc, to },
+        _ => Call::LineTo { dc, to },
     }
 }

@@ -31,7 +31,10 @@ pub const UNSOUND_RECORD: u32 = 9;
 // A text has more than 65,535 units.
 pub const TEXT_TOO_LONG: u32 = 10;
 
-// 11 to 19 are kept for calls that are added later.
+// A position is outside -32,768 to 32,767.
+pub const POSITION: u32 = 11;
+
+// 12 to 19 are kept for calls that are added later.
 
 // The numbers of a host's call are no call.
 pub const NO_CALL: u32 = 255;

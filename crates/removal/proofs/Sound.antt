@@ -75,6 +75,7 @@ module _ (b : GdiState) (s : Sound b) (i : ℕ) (lt : i < b .count) where
         width = s .width;
         height = s .height;
         panel = s .panel;
+        screen = s .screen;
         slots = all-of (b .count - 1) _ (λ j c. fits j (origin j c));
         apart = all-of (b .count - 1) _ (λ k c. all-of k _ (λ j d. differ j k d (origin j (omega arith)) (origin k c)));
         store =

@@ -34,11 +34,11 @@ module _ (s : List ℕ) (at : ℕ) where
       let n = be32 s (at + 1 + 12) in
       units-end at n (leb n 70000) (leb (at + 1 + (16 + 2 * n)) (length s)) _ refl
 
-  text-at : at < length s → getD s at 0 ≡ 15 → callAt s at ≡ scriptCall 15 s (at + 1)
+  text-at : (g : Bool) → at < length s → getD s at 0 ≡ 15 → callAt s g at ≡ scriptCall 15 s (at + 1)
   unfolding callAt
-  text-at lt k = rw (lt-ltb at (length s) lt, k)
+  text-at g lt k = rw (lt-ltb at (length s) lt, k)
 
-module _ {s : List ℕ} {at next : ℕ} {r : CallRead} {c : Call} (h : Read s at r) (e : r ≡ Is c next) where
+module _ {s : List ℕ} {g : Bool} {at next : ℕ} {r : CallRead} {c : Call} (h : Read s g at r) (e : r ≡ Is c next) where
   behind : (at < next) × (next ≤ length s)
   behind = subst (EndsWithin s at) e (h .behind)
 
@@ -50,5 +50,5 @@ module _ {s : List ℕ} {at next : ℕ} {r : CallRead} {c : Call} (h : Read s at
       record {
         some = ahead;
         inside = behind .1;
-        text = λ k. subst (TextEnds at) (sym (h .same ∙ text-at s at lt k) ∙ e) (text-ends s at);
+        text = λ k. subst (TextEnds at) (sym (h .same ∙ text-at s at g lt k) ∙ e) (text-ends s at);
       }

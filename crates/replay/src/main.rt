@@ -42,11 +42,11 @@ fn is_picture_asked() -> bool {
 // Performs a whole script.
 fn run(s: &[u8], picture: bool) {
     if LONGEST < s.len() {
-        lines::empty().text(b"bad script").print();
+        output::empty().text(b"bad script").print();
         return;
     }
     match script::read_header(s) {
-        HeaderRead::Bad => lines::empty().text(b"bad script").print(),
+        HeaderRead::Bad => output::empty().text(b"bad script").print(),
         HeaderRead::Is(h) => serve(s, h, picture),
     }
 }
@@ -54,11 +54,11 @@ fn run(s: &[u8], picture: bool) {
 // Performs a script with this header.
 fn serve(s: &[u8], h: Header, picture: bool) {
     if MOST_PANEL < (h.panel_len as usize) {
-        lines::empty().text(b"too large").print();
+        output::empty().text(b"too large").print();
         return;
     }
     if MOST_STORE < (h.store_len as usize) {
-        lines::empty().text(b"too large").print();
+        output::empty().text(b"too large").print();
         return;
     }
     lend(s, h, picture);

@@ -6,15 +6,15 @@ use gdi::DcSurface;
 use gdi::GdiObject;
 use gdi::Pen;
 use gdi::SelectedBitmap;
-use lines::Line;
+use output::Line;
 
-// Adds the kind and the fields.
-pub fn add(l: Line, o: GdiObject) -> Line
+// Adds the kind and the fields, those of change requests if they are asked for.
+pub fn add(l: Line, o: GdiObject, requests: bool) -> Line
     requires { ⌜ l .len ≤ 24 ⌝ }
-    ensures { λ r. ⌜ r .len ≤ 120 ⌝ }
+    ensures { λ r. ⌜ r .len ≤ 140 ⌝ }
 {
     match o {
-        GdiObject::Dc(d) => add_dc(l.text(b"dc "), d),
+        GdiObject::Dc(d) => add_dc(l.text(b"dc "), d, requests),
         GdiObject::Bitmap(b) => add_bitmap(l, b),
         GdiObject::Brush(b) => l.text(b"brush ").hex8(b.color.0),
         GdiObject::Pen(p) => add_pen(l, p),
@@ -46,15 +46,27 @@ fn add_pen(l: Line, p: Pen) -> Line
         .decimal(p.width as u64)
 }
 
-// Adds a DC's fields.
-pub fn add_dc(l: Line, d: Dc) -> Line
+// Adds a DC's fields, its position among them if the fields of change requests are asked for.
+pub fn add_dc(l: Line, d: Dc, requests: bool) -> Line
     requires { ⌜ l .len ≤ 27 ⌝ }
-    ensures { λ r. ⌜ r .len ≤ 120 ⌝ }
+    ensures { λ r. ⌜ r .len ≤ 140 ⌝ }
 {
     let surface = d.surface;
     let bitmap = d.selected_bitmap;
     let drawn_on = add_selected_bitmap(add_surface(l, surface), bitmap);
-    add_settings(add_colors(add_selected(drawn_on, d), d), d)
+    let fields = add_settings(add_colors(add_selected(drawn_on, d), d), d);
+    if requests {
+        return add_position(fields.space(), d.pos_x, d.pos_y);
+    }
+    fields
+}
+
+// Adds a position.
+pub fn add_position(l: Line, x: i32, y: i32) -> Line
+    requires { ⌜ l .len + 33 ≤ 160 ⌝ }
+    ensures { λ r. ⌜ r .len ≤ l .len + 23 ⌝ }
+{
+    l.signed_decimal(x).space().signed_decimal(y)
 }
 
 // Adds whether a DC paints the panel or its bitmap.

@@ -47,42 +47,56 @@ fn run(s: &[u8], h: Header, picture: bool, device: &mut [u32], panel: &mut [u8],
     harness::fill(store, h.fill, 0);
     let refusal = open::open(device, panel, store, h.width, h.height);
     if picture {
-        write_picture(s, refusal, device, panel, store);
+        write_picture(s, h.requests, refusal, device, panel, store);
     } else {
-        print_lines(s, refusal, device, panel, store);
+        print_lines(s, h.requests, refusal, device, panel, store);
     }
 }
 
 // Prints the number with which open is refused, 0 if it is not.
 fn print_open(refusal: u32) {
-    lines::empty()
+    output::empty()
         .text(b"open ")
         .decimal(refusal as u64)
         .print();
 }
 
 // Prints the line of open, the lines of the calls unless open was refused, and the state lines.
-fn print_lines(s: &[u8], refusal: u32, device: &mut [u32], panel: &mut [u8], store: &mut [u8])
+fn print_lines(
+    s: &[u8],
+    requests: bool,
+    refusal: u32,
+    device: &mut [u32],
+    panel: &mut [u8],
+    store: &mut [u8],
+)
     requires { ⌜ length (now device) ≡ recordSize ⌝ }
 {
     print_open(refusal);
     if refusal != 0 {
-        state::print(device, panel, store);
+        state::print(device, panel, store, requests);
         return;
     }
-    perform_all(s, true, device, panel, store);
-    state::print(device, panel, store);
+    perform_all(s, requests, true, device, panel, store);
+    state::print(device, panel, store, requests);
 }
 
 // Writes the panel after the calls as a picture, or prints the line of open if it was refused.
-fn write_picture(s: &[u8], refusal: u32, device: &mut [u32], panel: &mut [u8], store: &mut [u8])
+fn write_picture(
+    s: &[u8],
+    requests: bool,
+    refusal: u32,
+    device: &mut [u32],
+    panel: &mut [u8],
+    store: &mut [u8],
+)
     requires { ⌜ length (now device) ≡ recordSize ⌝ }
 {
     if refusal != 0 {
         print_open(refusal);
         return;
     }
-    perform_all(s, false, device, panel, store);
+    perform_all(s, requests, false, device, panel, store);
     write_panel(panel, device[numbers::WIDTH], device[numbers::HEIGHT]);
 }
 
@@ -99,21 +113,28 @@ fn write_panel(panel: &[u8], width: u32, height: u32) {
 
 // Performs call after call, up to the end of the script or a bad call. If they are shown, prints each call, and the state
 // lines where a look asks for them.
-fn perform_all(s: &[u8], shown: bool, device: &mut [u32], panel: &mut [u8], store: &mut [u8])
+fn perform_all(
+    s: &[u8],
+    requests: bool,
+    shown: bool,
+    device: &mut [u32],
+    panel: &mut [u8],
+    store: &mut [u8],
+)
     requires { ⌜ length (now device) ≡ recordSize ⌝ }
 {
     let mut units = [0u16; script::MAX_UNITS];
     let mut at = script::HEADER;
     while at < s.len() {
-        match script::read_call(s, at) {
+        match script::read_call(s, requests, at) {
             CallRead::Look => {
-                state::show(device, panel, store, shown);
+                state::show(device, panel, store, requests, shown);
                 at += 1;
             }
             CallRead::Is(call, next) => {
                 let n = take_units(s, at, next, &mut units);
                 let a = perform::perform(device, call, &units[0..n], panel, store);
-                answer::show(s[at], a, shown);
+                answer::show(s[at], a, requests, shown);
                 at = next;
             }
             _ => {
@@ -142,6 +163,6 @@ fn take_units(s: &[u8], at: usize, next: usize, units: &mut [u16]) -> usize
 // Prints that the next call is bad, if calls are shown.
 fn show_bad_call(shown: bool) {
     if shown {
-        lines::empty().text(b"bad call").print();
+        output::empty().text(b"bad call").print();
     }
 }

@@ -7,7 +7,6 @@ ghost use Rattle.numbers.specs.Layout.{recordSize};
 use gdi::GDI_SCREEN_DC;
 use gdi::MAX_OBJECTS;
 use gdi::Slot;
-use lines::Line;
 use numbers::COUNT;
 use numbers::FRAMES_HIGH;
 use numbers::FRAMES_LOW;
@@ -18,23 +17,24 @@ use numbers::SLOT;
 use numbers::SLOTS;
 use numbers::STOCK_DIRTY;
 use numbers::WIDTH;
+use output::Line;
 
 // Prints a record, and the CRCs of its memories, if they are shown.
-pub fn show(device: &[u32], panel: &[u8], store: &[u8], shown: bool)
+pub fn show(device: &[u32], panel: &[u8], store: &[u8], requests: bool, shown: bool)
     requires { ⌜ length (now device) ≡ recordSize ⌝ }
 {
     if shown {
-        print(device, panel, store);
+        print(device, panel, store, requests);
     }
 }
 
-// Prints a record, and the CRCs of its memories.
-pub fn print(device: &[u32], panel: &[u8], store: &[u8])
+// Prints a record, with the fields of change requests if they are asked for, and the CRCs of its memories.
+pub fn print(device: &[u32], panel: &[u8], store: &[u8], requests: bool)
     requires { ⌜ length (now device) ≡ recordSize ⌝ }
 {
     print_counters(device);
-    print_screen(device);
-    print_objects(device);
+    print_screen(device, requests);
+    print_objects(device, requests);
     print_crcs(crc32::crc32(panel), crc32::crc32(store));
 }
 
@@ -57,7 +57,7 @@ fn frames_of(low: u32, high: u32) -> u64 {
 fn sides(width: u32, height: u32) -> Line
     ensures { λ r. ⌜ r .len ≤ 47 ⌝ }
 {
-    lines::empty()
+    output::empty()
         .text(b"panel ")
         .decimal(width as u64)
         .space()
@@ -87,15 +87,15 @@ fn add_objects(l: Line, stock_dirty: bool, count: u32) -> Line
 }
 
 // Prints the screen DC.
-fn print_screen(device: &[u32])
+fn print_screen(device: &[u32], requests: bool)
     requires { ⌜ length (now device) ≡ recordSize ⌝ }
 {
-    let l = lines::empty().text(b"dc ").hex8(GDI_SCREEN_DC).space();
-    object::add_dc(l, numbers::dc_of(&device[SCREEN..SLOTS])).print();
+    let l = output::empty().text(b"dc ").hex8(GDI_SCREEN_DC).space();
+    object::add_dc(l, numbers::dc_of(&device[SCREEN..SLOTS]), requests).print();
 }
 
 // Prints the created objects in order.
-fn print_objects(device: &[u32])
+fn print_objects(device: &[u32], requests: bool)
     requires { ⌜ length (now device) ≡ recordSize ⌝ }
 {
     let count = device[COUNT] as usize;
@@ -103,21 +103,21 @@ fn print_objects(device: &[u32])
         if i < count {
             let p = SLOTS + SLOT * i;
             let e = p + SLOT;
-            print_object(numbers::slot_of(&device[p..e]));
+            print_object(numbers::slot_of(&device[p..e]), requests);
         }
     }
 }
 
 // Prints an object under its handle.
-fn print_object(slot: Slot) {
-    let l = lines::empty().text(b"object ").hex8(slot.handle).space();
+fn print_object(slot: Slot, requests: bool) {
+    let l = output::empty().text(b"object ").hex8(slot.handle).space();
     let o = slot.object;
-    object::add(l, o).print();
+    object::add(l, o, requests).print();
 }
 
 // Prints the CRCs of the memories.
 fn print_crcs(panel: u32, store: u32) {
-    lines::empty()
+    output::empty()
         .text(b"crc ")
         .hex8(panel)
         .space()

@@ -6,7 +6,7 @@ use mathlib.Core.Path.{_≡_, refl, _∙_}
 use Prim.Native.Nat.{ℕ, _+_, _*_, _≤_, _<_, _^_}
 use native.Mathlib.Decide.{decLe, ℕ-discrete}
 use native.Mathlib.Omega.{arith}
-use lib.Dec.{eqb, leb}
+use lib.Dec.{eqb, leb, ltb}
 use lib.IntN.{ℤ}
 use lib.ListN.{length}
 use lib.Signed.{mag}
@@ -16,7 +16,7 @@ use Rattle.bigendian.specs.BigEndian.{be32}
 use Rattle.plan.specs.declared.Call.{Call}
 use Rattle.script.specs.declared.CallRead.{CallRead}
 use Rattle.script.specs.declared.CallRead.the-variants.{Bad}
-use Rattle.script.specs.Script.{sized, scriptCall, entryOf, EndsWithin}
+use Rattle.script.specs.Script.{sized, scriptCall, requestCall, entryOf, EndsWithin}
 
 pub either-bad : (b : Bool) → cond b Bad Bad ≡ Bad
 either-bad true = refl
@@ -76,6 +76,11 @@ module _ (s : List ℕ) (p k : ℕ) where
       other : (n : ℕ) → leb n 18 ≡ true → eqb k n ≡ false
       other n t = ne-eqb k n (λ e. omega (arith, leb-true n 18 t))
 
+-- a move or a line that is cut short
+pub request-cut : (s : List ℕ) (p k : ℕ) → length s < p + 12 → Bad ≡ requestCall k s p
+unfolding requestCall
+request-cut s p k h = rw (lt-leb (p + 12) (length s) h) (simp either-bad)
+
 record Ends (s : List ℕ) (at : ℕ) (r : CallRead) : Type 0 where
   ends : EndsWithin s at r
 
@@ -114,5 +119,10 @@ module _ (s : List ℕ) (at : ℕ) where
       either (eqb k 17) (sized-ends 8 _) (
       either (eqb k 18) (sized-ends 36 _) (record { ends = tt }))))))))))))))))))
 
-  pub entry-behind : (k : ℕ) → EndsWithin s at (entryOf k s (at + 1))
-  entry-behind k = either (eqb k 0x7F) (record { ends = tt }) (call-ends k) .ends
+  request-ends : (k : ℕ) → Ends s at (requestCall k s (at + 1))
+  unfolding requestCall
+  request-ends k = either (eqb k 19) (sized-ends 12 _) (either (eqb k 20) (sized-ends 12 _) (record { ends = tt }))
+
+  pub entry-behind : (g : Bool) (k : ℕ) → EndsWithin s at (entryOf g k s (at + 1))
+  entry-behind g k =
+      either (eqb k 0x7F) (record { ends = tt }) (either (ltb k 0x13) (call-ends k) (either g (request-ends k) (record { ends = tt }))) .ends

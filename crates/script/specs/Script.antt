@@ -1,5 +1,5 @@
 -- A call script's bytes as a header and calls (docs/call-script.md). Numbers are most significant byte first.
-use mathlib.Core.Bool.{cond, _&&_}
+use mathlib.Core.Bool.{Bool, true, false, cond, _&&_}
 use mathlib.Core.List.{List, [], _∷_}
 use mathlib.Core.Path.{_≡_}
 use Prim.Native.Nat.{ℕ, zero, suc, _+_, _*_, _≤_, _<_}
@@ -9,17 +9,24 @@ use Rattle.bigendian.specs.BigEndian.{be16, be32, signed32}
 use Rattle.plan.specs.declared.Area.{Area}
 use Rattle.plan.specs.declared.Point.{Point}
 use Rattle.plan.specs.declared.Call.{Call}
-use Rattle.plan.specs.declared.Call.the-variants.{CreateMemoryDc, CreateCompatibleBitmap, CreateSolidBrush, CreatePen, CreateFont, Delete, Remove, SelectInto, SetTextColor, SetTextAlign, SetBkColor, SetBkMode, PatternFill, Rectangle, Text, PanelFill, Resize, Blit}
+use Rattle.plan.specs.declared.Call.the-variants.{CreateMemoryDc, CreateCompatibleBitmap, CreateSolidBrush, CreatePen, CreateFont, Delete, Remove, SelectInto, SetTextColor, SetTextAlign, SetBkColor, SetBkMode, PatternFill, Rectangle, Text, PanelFill, Resize, Blit, MoveTo, LineTo}
+use Rattle.script.specs.declared.Header.{Header}
 use Rattle.script.specs.declared.HeaderRead.{HeaderRead}
 use Rattle.script.specs.declared.HeaderRead.the-variants.{Bad as BadHeader, Is as IsHeader}
 use Rattle.script.specs.declared.CallRead.{CallRead}
 use Rattle.script.specs.declared.CallRead.the-variants.{End, Bad, Look, Is}
 
--- 21 bytes: `GDI1`, panel memory length, store length, panel width, panel height, fill byte
+-- behind the first four bytes: panel memory length, store length, panel width, panel height, fill byte
+abbrev pub headerIn : (requests : Bool) → List ℕ → Header
+headerIn g s =
+    record { requests = g; «panel_len» = be32 s 4; «store_len» = be32 s 8; width = be32 s 12; height = be32 s 16; fill = getD s 20 0 }
+
+-- 21 bytes, the first four `GDI1`, or `GDI2` in a script with the calls and fields of change requests
 unfoldable pub headerOf : List ℕ → HeaderRead
 headerOf s =
-    cond (leb 21 (length s) && eqb (be32 s 0) 0x47444931)
-    (IsHeader (record { «panel_len» = be32 s 4; «store_len» = be32 s 8; width = be32 s 12; height = be32 s 16; fill = getD s 20 0 }))
+    cond (leb 21 (length s)) (
+    cond (eqb (be32 s 0) 0x47444931) (IsHeader (headerIn false s)) (
+    cond (eqb (be32 s 0) 0x47444932) (IsHeader (headerIn true s)) BadHeader))
     BadHeader
 
 -- a call whose n bytes of arguments start at p; one that is cut short is bad
@@ -63,13 +70,21 @@ scriptCall k s p =
     cond (eqb k 18) (sized s p 36 (Blit (be32 s p) (areaAt s (p + 4)) (be32 s (p + 20)) (pointAt s (p + 24)) (be32 s (p + 32))))
     Bad)))))))))))))))))
 
--- the byte 7F is a look, which has no arguments and is no call on the device
-abbrev pub entryOf : (k : ℕ) → List ℕ → (p : ℕ) → CallRead
-entryOf k s p = cond (eqb k 0x7F) Look (scriptCall k s p)
+-- the calls of change requests: a move or a line to a point
+unfoldable pub requestCall : (k : ℕ) → List ℕ → (p : ℕ) → CallRead
+requestCall k s p =
+    cond (eqb k 19) (sized s p 12 (MoveTo (be32 s p) (pointAt s (p + 4)))) (
+    cond (eqb k 20) (sized s p 12 (LineTo (be32 s p) (pointAt s (p + 4))))
+    Bad)
+
+-- The byte 7F is a look, which has no arguments and is no call on the device. Other bytes from 13 on are calls of change requests,
+-- which only some scripts have.
+abbrev pub entryOf : (requests : Bool) → (k : ℕ) → List ℕ → (p : ℕ) → CallRead
+entryOf g k s p = cond (eqb k 0x7F) Look (cond (ltb k 0x13) (scriptCall k s p) (cond g (requestCall k s p) Bad))
 
 -- the entry at a byte of the script: the end, a look or a call
-unfoldable pub callAt : List ℕ → ℕ → CallRead
-callAt s at = cond (ltb at (length s)) (entryOf (getD s at 0) s (at + 1)) End
+unfoldable pub callAt : List ℕ → (requests : Bool) → ℕ → CallRead
+callAt s g at = cond (ltb at (length s)) (entryOf g (getD s at 0) s (at + 1)) End
 
 -- a call that was read ends after its start and within the script
 abbrev pub EndsWithin : List ℕ → ℕ → CallRead → Type 0
@@ -78,6 +93,6 @@ EndsWithin s at Bad = Unit
 EndsWithin s at Look = Unit
 EndsWithin s at (Is c next) = (at < next) × (next ≤ length s)
 
-pub record Read (s : List ℕ) (at : ℕ) (r : CallRead) : Type 0 where
-  pub same : r ≡ callAt s at
+pub record Read (s : List ℕ) (requests : Bool) (at : ℕ) (r : CallRead) : Type 0 where
+  pub same : r ≡ callAt s requests at
   pub behind : EndsWithin s at r

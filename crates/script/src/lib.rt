@@ -3,7 +3,7 @@ ghost use mathlib.Core.List.{_++_};
 ghost use mathlib.Core.Path.{_≡_};
 ghost use Prim.Native.Nat.{_≤_, _<_, _+_, _*_};
 ghost use lib.ListN.{length, drop};
-ghost use Rattle.script.specs.Script.{headerOf, pointAt, areaAt, unitsIn, scriptCall, entryOf, Read};
+ghost use Rattle.script.specs.Script.{headerIn, headerOf, pointAt, areaAt, unitsIn, scriptCall, requestCall, entryOf, Read};
 use color::Colorref;
 use color::Rgb565;
 use plan::Area;
@@ -13,6 +13,9 @@ use plan::Point;
 // `GDI1`
 pub const MAGIC: u32 = 0x4744_4931;
 
+// `GDI2`, of scripts with the calls and fields of change requests
+pub const REQUESTS_MAGIC: u32 = 0x4744_4932;
+
 // The header's bytes.
 pub const HEADER: usize = 21;
 
@@ -20,6 +23,8 @@ pub const HEADER: usize = 21;
 pub const MAX_UNITS: usize = 70_000;
 
 pub struct Header {
+    // Whether the script has the calls and fields of change requests.
+    pub requests: bool,
     pub panel_len: u32,
     pub store_len: u32,
     pub width: u32,
@@ -34,6 +39,9 @@ pub enum HeaderRead {
 
 // The byte that asks for the state lines. It has no arguments.
 pub const LOOK: u8 = 0x7F;
+
+// The first byte of a call of a change request.
+const FIRST_REQUEST: u8 = 0x13;
 
 // The entry at a byte of a script: the end, a bad entry, a look, or a call with the place of the byte after it.
 pub enum CallRead {
@@ -50,16 +58,29 @@ pub fn read_header(s: &[u8]) -> HeaderRead
     if s.len() < HEADER {
         return HeaderRead::Bad;
     }
-    if bigendian::read_u32(s, 0) != MAGIC {
-        return HeaderRead::Bad;
+    let magic = bigendian::read_u32(s, 0);
+    if magic == MAGIC {
+        return HeaderRead::Is(header_in(s, false));
     }
-    HeaderRead::Is(Header {
+    if magic == REQUESTS_MAGIC {
+        return HeaderRead::Is(header_in(s, true));
+    }
+    HeaderRead::Bad
+}
+
+// The header behind the magic number.
+fn header_in(s: &[u8], requests: bool) -> Header
+    requires { ⌜ 21 ≤ length (now s) ⌝ }
+    ensures { λ r. ⌜ r ≡ headerIn requests (now (s .entry)) ⌝ }
+{
+    Header {
+        requests: requests,
         panel_len: bigendian::read_u32(s, 4),
         store_len: bigendian::read_u32(s, 8),
         width: bigendian::read_u32(s, 12),
         height: bigendian::read_u32(s, 16),
         fill: s[20],
-    })
+    }
 }
 
 // The create call of byte k, whose arguments start at p.
@@ -342,24 +363,50 @@ fn read_arguments(s: &[u8], k: u8, p: usize) -> CallRead
     CallRead::Bad
 }
 
-// The look or call of byte k, whose arguments start at p.
-fn read_entry(s: &[u8], k: u8, p: usize) -> CallRead
+// The move or line of byte k, whose arguments start at p.
+fn read_request(s: &[u8], k: u8, p: usize) -> CallRead
     requires { ⌜ p ≤ length (now s) ⌝ }
-    ensures { λ r. ⌜ r ≡ entryOf k (now (s .entry)) p ⌝ }
+    ensures { λ r. ⌜ r ≡ requestCall k (now (s .entry)) p ⌝ }
+{
+    let left = s.len() - p;
+    if left < 12 {
+        return CallRead::Bad;
+    }
+    let dc = bigendian::read_u32(s, p);
+    let to = read_point(s, p + 4);
+    if k == 19 {
+        return CallRead::Is(Call::MoveTo { dc: dc, to: to }, p + 12);
+    }
+    if k == 20 {
+        return CallRead::Is(Call::LineTo { dc: dc, to: to }, p + 12);
+    }
+    CallRead::Bad
+}
+
+// The look or call of byte k, whose arguments start at p.
+fn read_entry(s: &[u8], requests: bool, k: u8, p: usize) -> CallRead
+    requires { ⌜ p ≤ length (now s) ⌝ }
+    ensures { λ r. ⌜ r ≡ entryOf requests k (now (s .entry)) p ⌝ }
 {
     if k == LOOK {
         return CallRead::Look;
     }
-    read_arguments(s, k, p)
+    if k < FIRST_REQUEST {
+        return read_arguments(s, k, p);
+    }
+    if requests {
+        return read_request(s, k, p);
+    }
+    CallRead::Bad
 }
 
-// Returns the entry at a byte of a script.
-pub fn read_call(s: &[u8], at: usize) -> CallRead
+// Returns the entry at a byte of a script, which has the calls of change requests or has not.
+pub fn read_call(s: &[u8], requests: bool, at: usize) -> CallRead
     requires { ⌜ at ≤ length (now s) ⌝ }
-    ensures { λ r. ⌜ Read (now (s .entry)) at r ⌝ }
+    ensures { λ r. ⌜ Read (now (s .entry)) requests at r ⌝ }
 {
     if at < s.len() {
-        return read_entry(s, s[at], at + 1);
+        return read_entry(s, requests, s[at], at + 1);
     }
     CallRead::End
 }

@@ -3,3 +3,4 @@ pub mod Handles
 pub mod Sound
 pub mod Objects
 pub mod Slots
+pub mod Positions

@@ -15,7 +15,7 @@ use Rattle.gdi.specs.declared.Slot.{Slot}
 use Rattle.gdi.specs.declared.GdiState.{GdiState}
 use Rattle.gdi.specs.Record.{noSlot, size, bytesOf}
 use Rattle.gdi.specs.Lookup.{slotAt, handleAt, objectAt}
-use Rattle.sound.specs.Sound.{limit, objectFits, slotFits, slotsFit, absent, distinct, startOf, used, isSound}
+use Rattle.sound.specs.Sound.{limit, positioned, objectFits, slotFits, slotsFit, absent, distinct, startOf, used, isSound}
 use Rattle.sound.proofs.Bytes.{fits-below}
 
 -- the parts of soundness
@@ -26,6 +26,7 @@ pub record Sound (b : GdiState) : Type 0 where
   pub width : side (b .width) ≡ true
   pub height : side (b .height) ≡ true
   pub panel : size (b .width) (b .height) ≤ b .«panel_len»
+  pub screen : positioned (b .screen) ≡ true
   pub slots : slotsFit b ≡ true
   pub apart : distinct (b .objects) (b .count) ≡ true
   pub store : used b ≤ b .«store_len»
@@ -46,6 +47,7 @@ parts b e =
       width = search (and-l, and-r) depth 12;
       height = search (and-l, and-r) depth 12;
       panel = leb-true _ _ (search (and-l, and-r) depth 12);
+      screen = search (and-l, and-r) depth 12;
       slots = search (and-l, and-r) depth 12;
       apart = search (and-l, and-r) depth 12;
       store = leb-true _ _ (search (and-l, and-r) depth 12);
@@ -54,12 +56,12 @@ parts b e =
 -- the last test, where the other parts hold
 pub sound-if-room : (b : GdiState) {at : ℕ} → b .«panel_len» ≤ limit → b .«store_len» ≤ limit → b .count ≤ 256
     → side (b .width) ≡ true → side (b .height) ≡ true → size (b .width) (b .height) ≤ b .«panel_len»
-    → slotsFit b ≡ true → distinct (b .objects) (b .count) ≡ true → at ≡ used b → leb at (b .«store_len») ≡ isSound b
+    → positioned (b .screen) ≡ true → slotsFit b ≡ true → distinct (b .objects) (b .count) ≡ true → at ≡ used b → leb at (b .«store_len») ≡ isSound b
 unfolding isSound
-sound-if-room b p s c w h m f d e = rw (le-leb _ _ p, le-leb _ _ s, le-leb _ _ c, w, h, le-leb _ _ m, f, d, e)
+sound-if-room b p s c w h m o f d e = rw (le-leb _ _ p, le-leb _ _ s, le-leb _ _ c, w, h, le-leb _ _ m, o, f, d, e)
 
 pub whole : (b : GdiState) → Sound b → isSound b ≡ true
-whole b s = sym (sound-if-room b (s .panel-len) (s .store-len) (s .count) (s .width) (s .height) (s .panel) (s .slots) (s .apart) refl) ∙ le-leb _ _ (s .store)
+whole b s = sym (sound-if-room b (s .panel-len) (s .store-len) (s .count) (s .width) (s .height) (s .panel) (s .screen) (s .slots) (s .apart) refl) ∙ le-leb _ _ (s .store)
 
 -- a record that lacks a part
 pub unsound : (b : GdiState) → (Sound b → ⊥) → false ≡ isSound b

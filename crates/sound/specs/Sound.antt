@@ -6,13 +6,14 @@ use lib.Dec.{eqb, leb}
 use Rattle.arithmetic.specs.Test.{allBelow}
 use Rattle.arithmetic.specs.Sum.{sumBelow}
 use Rattle.surface.specs.Refusal.{side}
+use Rattle.gdi.specs.declared.Dc.{Dc}
 use Rattle.gdi.specs.declared.DcSurface.{DcSurface}
 use Rattle.gdi.specs.declared.DcSurface.the-variants.{Screen, Memory}
 use Rattle.gdi.specs.declared.GdiObject.{GdiObject}
 use Rattle.gdi.specs.declared.GdiObject.the-variants.{Dc as DcOf, Bitmap, Brush, Pen, Font}
 use Rattle.gdi.specs.declared.Slot.{Slot}
 use Rattle.gdi.specs.declared.GdiState.{GdiState}
-use Rattle.gdi.specs.Record.{size, bytesOf}
+use Rattle.gdi.specs.Record.{size, bytesOf, isPosition}
 use Rattle.gdi.specs.Stock.{isStock}
 use Rattle.gdi.specs.Lookup.{slotAt, handleAt, objectAt}
 
@@ -24,9 +25,13 @@ abbrev pub isMemory : DcSurface → Bool
 isMemory Screen = false
 isMemory Memory = true
 
--- every created DC is a memory DC, bitmap sides are 1 to 4,096
+-- a DC's position is within -32,768 to 32,767
+abbrev pub positioned : Dc → Bool
+positioned d = isPosition (d .«pos_x») (d .«pos_y»)
+
+-- every created DC is a memory DC, with a position in its range; bitmap sides are 1 to 4,096
 abbrev pub objectFits : GdiObject → Bool
-objectFits (DcOf d) = isMemory (d .surface)
+objectFits (DcOf d) = isMemory (d .surface) && positioned d
 objectFits (Bitmap m) = side (m .width) && side (m .height)
 objectFits (Brush x) = true
 objectFits (Pen x) = true
@@ -56,10 +61,10 @@ abbrev pub used : GdiState → ℕ
 used b = startOf b (b .count)
 
 -- A record is sound if its lengths are at most the limit, its object count is at most 256, every created DC is a memory DC,
--- panel and bitmap sides are 1 to 4,096, handles differ and are neither 0 nor stock, 2·w·h fits the panel memory, and 2 + the
--- sum of 2·w·h over created bitmaps fits the store.
+-- panel and bitmap sides are 1 to 4,096, handles differ and are neither 0 nor stock, 2·w·h fits the panel memory, 2 + the sum of
+-- 2·w·h over created bitmaps fits the store, and positions, of the screen DC and of created DCs, are in their range.
 unfoldable pub isSound : GdiState → Bool
 isSound b =
     leb (b .«panel_len») limit && (leb (b .«store_len») limit && (leb (b .count) 256
     && (side (b .width) && (side (b .height) && (leb (size (b .width) (b .height)) (b .«panel_len»)
-    && (slotsFit b && (distinct (b .objects) (b .count) && leb (used b) (b .«store_len»))))))))
+    && (positioned (b .screen) && (slotsFit b && (distinct (b .objects) (b .count) && leb (used b) (b .«store_len»)))))))))

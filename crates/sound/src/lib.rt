@@ -7,10 +7,10 @@ ghost use lib.ListN.{length};
 ghost use Rattle.words.specs.Parts.{part};
 ghost use Rattle.gdi.specs.Record.{bytesOf};
 ghost use Rattle.gdi.specs.Stock.{isStock};
-ghost use Rattle.numbers.specs.Layout.{objectSize, slotSize, recordSize, countPlace, kindPlace, objectPlace};
-ghost use Rattle.numbers.specs.Block.{at, objectOf};
+ghost use Rattle.numbers.specs.Layout.{dcSize, objectSize, slotSize, recordSize, countPlace, kindPlace, objectPlace};
+ghost use Rattle.numbers.specs.Block.{at, dcFields, objectOf};
 ghost use Rattle.numbers.specs.View.{view, isRecord};
-ghost use Rattle.sound.specs.Sound.{objectFits, slotsFit, startOf};
+ghost use Rattle.sound.specs.Sound.{positioned, objectFits, slotsFit, startOf};
 ghost use Rattle.sound.specs.Inner.{Scanned};
 use gdi::GDI_HANDLE_BASE;
 use gdi::GdiObject;
@@ -19,6 +19,8 @@ use numbers::BITMAP_HEIGHT;
 use numbers::COUNT;
 use numbers::KIND;
 use numbers::OBJECT;
+use numbers::POS_X;
+use numbers::POS_Y;
 use numbers::SLOT;
 use numbers::SLOTS;
 
@@ -43,13 +45,29 @@ pub fn object_bytes(object: GdiObject) -> usize
     }
 }
 
+// Returns whether the position of the DC at number p is in its range.
+pub fn is_positioned(numbers: &[u32], p: usize) -> bool
+    requires { ⌜ p + dcSize ≤ length (now numbers) ⌝ }
+    ensures { λ r. ⌜ r ≡ positioned (dcFields (part (now (numbers .entry)) p dcSize)) ⌝ }
+{
+    let x = numbers::signed(numbers[p + POS_X]);
+    let y = numbers::signed(numbers[p + POS_Y]);
+    gdi::is_position(x, y)
+}
+
 // Returns whether the object in the slot at number p may be a created object.
 fn object_fits(numbers: &[u32], p: usize) -> bool
     requires { ⌜ p + slotSize ≤ length (now numbers) ⌝ }
     ensures { λ r. ⌜ r ≡ objectFits (objectOf (at (now (numbers .entry)) (p + kindPlace)) (part (now (numbers .entry)) (p + objectPlace) objectSize)) ⌝ }
 {
     match numbers[p + KIND] {
-        0 => numbers[p + OBJECT] == 1,
+        0 => {
+            if numbers[p + OBJECT] == 1 {
+                is_positioned(numbers, p + OBJECT)
+            } else {
+                false
+            }
+        }
         1 => {
             if surface::is_side(numbers[p + OBJECT]) {
                 surface::is_side(numbers[p + BITMAP_HEIGHT])

@@ -1,6 +1,6 @@
 //! Random numbers and calls.
 
-use ravinefork::{call, Handle, HostCall, MAX_SIDE};
+use ravinefork::{call, Handle, HostCall, MAX_POSITION, MAX_SIDE, MIN_POSITION};
 
 /// Random numbers. A seed gives the same ones on every run.
 pub struct Random(u64);
@@ -39,10 +39,20 @@ impl Random {
         }
     }
 
+    /// A coordinate of a position: mostly near a small surface, else anywhere in the
+    /// range, at its ends or just past them.
+    pub fn position(&mut self) -> i32 {
+        match self.below(8) {
+            0 => self.of(&[MIN_POSITION, MIN_POSITION - 1, MAX_POSITION, MAX_POSITION + 1]),
+            1 => MIN_POSITION + self.below(65_536) as i32,
+            _ => self.coordinate(),
+        }
+    }
+
     pub fn call(&mut self) -> HostCall {
         let call = match self.below(40) {
             0 => self.number(),
-            _ => 1 + self.below(call::BLIT),
+            _ => 1 + self.below(call::LINE_TO),
         };
         let dcs = [Handle::GDI_SCREEN_DC.0, Handle::GDI_HANDLE_BASE.0, self.number()];
         let a = match call {
@@ -52,14 +62,18 @@ impl Random {
             call::DELETE | call::REMOVE if self.below(3) > 0 => 0,
             _ => self.number(),
         };
+        let [x, y] = match call {
+            call::MOVE_TO | call::LINE_TO => [self.position(), self.position()],
+            _ => [self.coordinate(), self.coordinate()],
+        };
         HostCall {
             call,
             dc: self.of(&dcs),
             src: self.of(&dcs),
             a,
             b: self.number(),
-            x: self.coordinate(),
-            y: self.coordinate(),
+            x,
+            y,
             w: self.coordinate(),
             h: self.coordinate(),
             src_x: self.coordinate(),

@@ -17,8 +17,29 @@ pub fn path(of: &str) -> PathBuf {
 /// The byte of a look. It is not a call.
 const LOOK: u8 = 0x7F;
 
+/// The form of a script, by its first bytes. A `GDI1` script has the calls up to a
+/// blit, and its lines have no positions.
+#[derive(Clone, Copy, PartialEq)]
+enum Form {
+    Gdi1,
+    Gdi2,
+}
+
+impl Form {
+    /// Reads the first bytes of a script.
+    fn read(script: &[u8]) -> Option<(Form, &[u8])> {
+        let gdi1 = script.strip_prefix(b"GDI1").map(|rest| (Form::Gdi1, rest));
+        gdi1.or_else(|| script.strip_prefix(b"GDI2").map(|rest| (Form::Gdi2, rest)))
+    }
+
+    /// Whether a script of this form has the call.
+    fn has(self, call: u32) -> bool {
+        self == Form::Gdi2 || call <= call::BLIT
+    }
+}
+
 /// The arguments of each call, from call 1 on.
-const ARGUMENTS: [&[Field]; 18] = {
+const ARGUMENTS: [&[Field]; 20] = {
     use Field::*;
     [
         &[],
@@ -39,6 +60,8 @@ const ARGUMENTS: [&[Field]; 18] = {
         &[A],
         &[A, B],
         &[Dc, X, Y, W, H, Src, SrcX, SrcY, A],
+        &[Dc, X, Y],
+        &[Dc, X, Y],
     ]
 };
 
@@ -64,9 +87,12 @@ fn number(script: &mut &[u8]) -> Option<u32> {
 }
 
 /// Reads a call from the front of a script; none if it is a bad call.
-fn read(script: &mut &[u8]) -> Option<(HostCall, Vec<u16>)> {
+fn read(form: Form, script: &mut &[u8]) -> Option<(HostCall, Vec<u16>)> {
     let (&byte, rest) = script.split_first()?;
     *script = rest;
+    if !form.has(byte.into()) {
+        return None;
+    }
     let mut host = HostCall { call: byte.into(), ..HostCall::default() };
     for field in *ARGUMENTS.get(usize::from(byte).checked_sub(1)?)? {
         let n = number(script)?;
@@ -93,9 +119,9 @@ fn read(script: &mut &[u8]) -> Option<(HostCall, Vec<u16>)> {
     Some((host, units))
 }
 
-fn object_line(object: &GdiObject) -> String {
+fn object_line(form: Form, object: &GdiObject) -> String {
     match object {
-        GdiObject::Dc(dc) => format!("dc {}", dc_line(dc)),
+        GdiObject::Dc(dc) => format!("dc {}", dc_line(form, dc)),
         GdiObject::Bitmap(bitmap) => {
             let dirty = u8::from(bitmap.host_dirty);
             format!("bitmap {} {} {dirty}", bitmap.width, bitmap.height)
@@ -106,7 +132,7 @@ fn object_line(object: &GdiObject) -> String {
     }
 }
 
-fn dc_line(dc: &Dc) -> String {
+fn dc_line(form: Form, dc: &Dc) -> String {
     let surface = match dc.surface {
         DcSurface::Screen => "screen",
         DcSurface::Memory => "memory",
@@ -117,7 +143,9 @@ fn dc_line(dc: &Dc) -> String {
     let [colors, align, bk] =
         [colors.join(" "), format!("{:08x}", dc.text_align), { format!("{:08x}", dc.bk_color.0) }];
     let transparent = u8::from(dc.bk_transparent);
-    format!("{surface} {bitmap} {brush} {pen} {font} {colors} {align} {bk} {transparent}")
+    let position =
+        if form == Form::Gdi2 { " ".to_owned() + &point(dc.position) } else { "".into() };
+    format!("{surface} {bitmap} {brush} {pen} {font} {colors} {align} {bk} {transparent}{position}")
 }
 
 /// The refusal's number and the answer, or the answer's zero if it is refused.
@@ -136,8 +164,12 @@ fn flag(flag: bool) -> String {
     u8::from(flag).to_string()
 }
 
-fn shown(object: Option<GdiObject>) -> String {
-    object.map_or("none".into(), |object| object_line(&object))
+fn point(Point { x, y }: Point) -> String {
+    format!("{x} {y}")
+}
+
+fn shown(form: Form, object: Option<GdiObject>) -> String {
+    object.map_or("none".into(), |object| object_line(form, &object))
 }
 
 fn drawn(answer: Result<(), Refusal>) -> String {
@@ -146,10 +178,11 @@ fn drawn(answer: Result<(), Refusal>) -> String {
 
 /// Makes the call by the device's method and returns its line; none if there is no
 /// such call.
-fn by_method(device: &mut Device, host: &HostCall, units: &[u16]) -> Option<String> {
+fn by_method(form: Form, device: &mut Device, host: &HostCall, units: &[u16]) -> Option<String> {
     let &HostCall { a, b, x, y, w, h, src_x, src_y, .. } = host;
     let [dc, src, object] = [host.dc, host.src, a].map(Handle);
     let (area, color, from) = (Area { x, y, w, h }, Colorref(a), Point { x: src_x, y: src_y });
+    let to = Point { x, y };
     let handle = |made| line(made, Handle(0), |handle| handle.to_string());
     let old = |old| line(old, Colorref(0), |color| hex(color.0));
     Some(match host.call {
@@ -159,7 +192,7 @@ fn by_method(device: &mut Device, host: &HostCall, units: &[u16]) -> Option<Stri
         call::CREATE_PEN => handle(device.create_pen(color, b)),
         call::CREATE_FONT => handle(device.create_font(h)),
         call::DELETE => line(device.delete(object), false, flag),
-        call::REMOVE => line(device.remove(object), None, shown),
+        call::REMOVE => line(device.remove(object), None, |object| shown(form, object)),
         call::SELECT_INTO => handle(device.select_into(dc, object)),
         call::SET_TEXT_COLOR => old(device.set_text_color(dc, color)),
         call::SET_TEXT_ALIGN => line(device.set_text_align(dc, a), 0, hex),
@@ -168,25 +201,28 @@ fn by_method(device: &mut Device, host: &HostCall, units: &[u16]) -> Option<Stri
         call::PATTERN_FILL => drawn(device.pattern_fill(dc, area, a)),
         call::RECTANGLE => drawn(device.rectangle(dc, area)),
         call::TEXT => {
-            let advance = device.text_out(dc, Point { x, y }, units);
+            let advance = device.text_out(dc, to, units);
             line(advance, 0, |advance| advance.to_string())
         }
         call::PANEL_FILL => drawn(device.panel_fill(Rgb565(u16::try_from(a).ok()?))),
         call::RESIZE => drawn(device.resize(a, b)),
         call::BLIT => drawn(device.blit(dc, area, src, from, a)),
+        call::MOVE_TO => line(device.move_to(dc, to), Point::default(), point),
+        call::LINE_TO => drawn(device.line_to(dc, to)),
         _ => return None,
     })
 }
 
 /// The line of an answer as numbers; none if there is no such call.
-fn by_numbers(call: u32, reply: &Reply) -> Option<String> {
-    let Reply { refusal, value, flag, .. } = reply;
+fn by_numbers(form: Form, call: u32, reply: &Reply) -> Option<String> {
+    let Reply { refusal, value, flag, x, y, .. } = reply;
     if *refusal == Refusal::NO_CALL.number() {
         return None;
     }
     Some(match call {
         call::DELETE | call::SET_BK_MODE => format!("{refusal} {flag}"),
-        call::REMOVE => format!("{refusal} {}", shown(reply.object())),
+        call::REMOVE => format!("{refusal} {}", shown(form, reply.object())),
+        call::MOVE_TO => format!("{refusal} {x} {y}"),
         call::TEXT => format!("{refusal} {value}"),
         call::PATTERN_FILL.. => format!("{refusal}"),
         _ => format!("{refusal} {value:08x}"),
@@ -194,22 +230,28 @@ fn by_numbers(call: u32, reply: &Reply) -> Option<String> {
 }
 
 /// The state lines, which must be the same in both forms.
-fn looked_at(device: &Device, record: &Record, panel: &[u8], store: &[u8]) -> Vec<String> {
+fn looked_at(
+    form: Form,
+    device: &Device,
+    record: &Record,
+    panel: &[u8],
+    store: &[u8],
+) -> Vec<String> {
     assert!(panel == device.panel() && store == device.store(), "the memories differ");
-    state(record, panel, store)
+    state(form, record, panel, store)
 }
 
 /// The state lines of a record and its memories.
-fn state(record: &Record, panel: &[u8], store: &[u8]) -> Vec<String> {
+fn state(form: Form, record: &Record, panel: &[u8], store: &[u8]) -> Vec<String> {
     let (width, height) = (record.width(), record.height());
     let (frames, next) = (record.frame_counter(), record.next_handle());
     let (stock, count) = (u8::from(record.stock_dirty()), record.count());
     let mut lines = vec![
         format!("panel {width} {height} frames {frames} next {next} stock {stock} count {count}"),
-        format!("dc {} {}", Handle::GDI_SCREEN_DC, dc_line(&record.screen())),
+        format!("dc {} {}", Handle::GDI_SCREEN_DC, dc_line(form, &record.screen())),
     ];
     let objects = record.slots();
-    lines.extend(objects.map(|s| format!("object {} {}", s.handle, object_line(&s.object))));
+    lines.extend(objects.map(|s| format!("object {} {}", s.handle, object_line(form, &s.object))));
     lines.push(format!("crc {:08x} {:08x}", crc32(panel), crc32(store)));
     lines
 }
@@ -222,12 +264,12 @@ pub fn printed(script: &[u8]) -> (String, usize) {
 
 fn lines(script: &[u8]) -> (Vec<String>, usize) {
     let header = (|| {
-        let mut rest = script.strip_prefix(b"GDI1")?;
+        let (form, mut rest) = Form::read(script)?;
         let [panel, store, width, height] = [(); 4].map(|()| number(&mut rest));
         let (&fill, rest) = rest.split_first()?;
-        Some(([panel?, store?, width?, height?], fill, rest))
+        Some((form, [panel?, store?, width?, height?], fill, rest))
     })();
-    let Some(([panel_len, store_len, width, height], fill, mut rest)) =
+    let Some((form, [panel_len, store_len, width, height], fill, mut rest)) =
         header.filter(|_| script.len() <= 1_048_576)
     else {
         return (vec!["bad script".into()], 0);
@@ -245,21 +287,21 @@ fn lines(script: &[u8]) -> (Vec<String>, usize) {
         Ok(device) => device,
         Err(refusal) => {
             assert_eq!(opened, Err(refusal));
-            lines.extend(state(&record, &panel, &store));
+            lines.extend(state(form, &record, &panel, &store));
             return (lines, 0);
         }
     };
     let mut calls = 0;
     while let Some((&first, behind)) = rest.split_first() {
         if first == LOOK {
-            lines.extend(looked_at(&device, &record, &panel, &store));
+            lines.extend(looked_at(form, &device, &record, &panel, &store));
             rest = behind;
             continue;
         }
-        let line = read(&mut rest).and_then(|(host, units)| {
-            let line = by_method(&mut device, &host, &units);
+        let line = read(form, &mut rest).and_then(|(host, units)| {
+            let line = by_method(form, &mut device, &host, &units);
             let reply = record.perform(&host, &units, &mut panel, &mut store);
-            assert_eq!(by_numbers(host.call, &reply), line, "{host:x?}");
+            assert_eq!(by_numbers(form, host.call, &reply), line, "{host:x?}");
             let numbers = device.record().as_numbers();
             assert!(record.as_numbers() == numbers, "the numbers differ after {host:x?}");
             line.map(|line| format!("{:02x} {line}", host.call))
@@ -271,7 +313,7 @@ fn lines(script: &[u8]) -> (Vec<String>, usize) {
         lines.push(line);
         calls += 1;
     }
-    lines.extend(looked_at(&device, &record, &panel, &store));
+    lines.extend(looked_at(form, &device, &record, &panel, &store));
     (lines, calls)
 }
 

@@ -1,13 +1,18 @@
 //! Times whole calls on a device through the host library, the original's calls,
 //! and the pixel work alone: the same drawing by the proved operation on lent
-//! bytes. Each round times all three, in alternating order, each on its own scene;
+//! bytes. A line has no operation on lent bytes and is not in the original: its
+//! pixel work is a plain loop from the specification's formula. Each round times all three, in alternating order, each on its own scene;
 //! a row has the medians over the rounds. The answers, panels, bitmaps, snapshots
 //! and frame counters must be equal. Every proved call checks the whole record;
 //! the original has no such check.
 
+#[path = "../plain.rs"]
+mod plain;
 #[path = "../proved.rs"]
 #[allow(dead_code)]
 mod proved;
+#[path = "../timing.rs"]
+mod timing;
 
 use std::hint::black_box;
 use std::time::Instant;
@@ -28,6 +33,7 @@ const BITMAP: [u32; 2] = [100, 100];
 const AREA: [i32; 4] = [70, 110, 100, 100];
 const TEXT_AT: [i32; 2] = [96, 150];
 const TEXT: &str = "MODULE 6";
+const LINE: [[i32; 2]; 2] = [[220, 250], [20, 130]];
 
 /// What is called.
 #[derive(Clone, Copy)]
@@ -42,12 +48,14 @@ enum Call {
     Rectangle,
     Blit,
     Text,
+    Line,
     SnapshotRgba,
     SnapshotPpm,
 }
 
-/// The rows. Creating and deleting an object are two calls.
-const ROWS: [(&str, Call); 12] = [
+/// The rows. Creating and deleting an object are two calls, and so are a move and a
+/// line.
+const ROWS: [(&str, Call); 13] = [
     ("set text colour", Call::SetTextColor),
     ("select", Call::Select),
     ("create a brush, delete it (both)", Call::Brush),
@@ -58,6 +66,7 @@ const ROWS: [(&str, Call); 12] = [
     ("rectangle 100×100", Call::Rectangle),
     ("blit SRCCOPY 100×100", Call::Blit),
     ("text, 8 units", Call::Text),
+    ("move, line of 200 pixels (both)", Call::Line),
     ("snapshot RGBA 240×320", Call::SnapshotRgba),
     ("snapshot PPM 240×320", Call::SnapshotPpm),
 ];
@@ -161,6 +170,11 @@ impl Host {
             Call::Text => {
                 let at = Point { x: TEXT_AT[0], y: TEXT_AT[1] };
                 device.text_out(screen, at, black_box(&self.units))?
+            }
+            Call::Line => {
+                let [from, to] = black_box(LINE).map(|[x, y]| Point { x, y });
+                device.move_to(screen, from)?;
+                device.line_to(screen, to).map(|()| 0)?
             }
             Call::SnapshotRgba => {
                 let panel = black_box(device.panel());
@@ -282,6 +296,15 @@ impl Scene for Original {
                 surface.mark_dirty();
                 advance as u32
             }
+            Call::Line => {
+                // The original has no lines; this is for the check alone.
+                let [_, pen, _] = colors(gdi, GDI_SCREEN_DC);
+                let [from, to] = black_box(LINE);
+                if plain::draw_line(&mut panel.pixels, PANEL, from, to, pen) {
+                    panel.mark_dirty();
+                }
+                0
+            }
             Call::SnapshotRgba => {
                 black_box(panel).snapshot_rgba8888_into(snapshot);
                 brief(snapshot)
@@ -350,6 +373,11 @@ impl Scene for Pixels {
                 let [x, y] = TEXT_AT;
                 self.panel.draw_str_u16(x, y, black_box(&self.units), color) as u32
             }
+            Call::Line => {
+                let [from, to] = black_box(LINE);
+                plain::draw_line(&mut self.panel.pixels, PANEL, from, to, pen);
+                0
+            }
             _ => 0,
         }
     }
@@ -359,7 +387,7 @@ impl Call {
     /// Whether its pixel work is timed separately.
     fn draws(self) -> bool {
         use Call::*;
-        matches!(self, PanelFill | Resize | PatternFill | Rectangle | Blit | Text)
+        matches!(self, PanelFill | Resize | PatternFill | Rectangle | Blit | Text | Line)
     }
 
     /// How many brushes a scene has at the start, in addition to the DC, the bitmap and
@@ -411,11 +439,6 @@ fn check(call: Call, brushes: u32) {
     assert_eq!(ours.brush_color.0, theirs.brush_color, "the brushes differ");
 }
 
-fn median(mut times: Vec<f64>) -> f64 {
-    times.sort_by(f64::total_cmp);
-    times[times.len() / 2]
-}
-
 /// The medians of the proved call, the original's call and the pixel work.
 fn measure(call: Call, objects: u32, rounds: u32) -> [f64; 3] {
     let brushes = call.brushes(objects);
@@ -430,15 +453,11 @@ fn measure(call: Call, objects: u32, rounds: u32) -> [f64; 3] {
             times[which].push(timers[which](call, brushes, counts[which]));
         }
     }
-    times.map(median)
+    times.map(timing::median)
 }
 
 fn main() {
-    let rounds = std::env::args().nth(1).map_or(Ok(101), |n| n.parse());
-    let Ok(rounds @ 1..) = rounds else {
-        eprintln!("host [ROUNDS]");
-        std::process::exit(2);
-    };
+    let rounds = timing::rounds("host");
     println!(
         "| call | objects | proved, ns | pixel work alone, ns | above it, ns | original, ns |"
     );
@@ -450,7 +469,11 @@ fn main() {
                 true => (format!("{pixels:.0}"), ours - pixels),
                 false => ("–".into(), ours),
             };
-            println!("| {name} | {objects} | {ours:.0} | {alone} | {above:.0} | {theirs:.0} |");
+            let theirs = match call {
+                Call::Line => "–".into(),
+                _ => format!("{theirs:.0}"),
+            };
+            println!("| {name} | {objects} | {ours:.0} | {alone} | {above:.0} | {theirs} |");
         }
     }
     println!("{rounds} rounds, medians; answers, pixels and marks equal");

@@ -89,18 +89,28 @@ returns-20 c = rw (c .match .keys18, c .before .before .before .area-of .ensures
 
 returns-21 : tie.Need-returns-21
 unfolding callOf
-returns-21 c =
+returns-21 c = rw (c .match .keys19, c .before .before .at-of .ensures)
+
+returns-22 : tie.Need-returns-22
+unfolding callOf
+returns-22 c = rw (c .match .keys20, c .before .before .at-of .ensures)
+
+returns-23 : tie.Need-returns-23
+unfolding callOf
+returns-23 c =
     let n = c .before .before .before .before .args .c .call in
     let last = c .match .rest in
-    let middle = last .0 .0 .0 .0 .0 .0 in
+    let third = last .0 .0 in
+    let middle = third .0 .0 .0 .0 .0 .0 in
     let first = middle .0 .0 .0 .0 .0 .0 in
     rw (ne-eqb n 1 (first .0 .0 .0 .0 .0 .1), ne-eqb n 2 (first .0 .0 .0 .0 .1), ne-eqb n 3 (first .0 .0 .0 .1), ne-eqb n 4 (first .0 .0 .1), ne-eqb n 5 (first .0 .1), ne-eqb n 6 (first .1))
     (rw (ne-eqb n 7 (middle .0 .0 .0 .0 .0 .1), ne-eqb n 8 (middle .0 .0 .0 .0 .1), ne-eqb n 9 (middle .0 .0 .0 .1), ne-eqb n 10 (middle .0 .0 .1), ne-eqb n 11 (middle .0 .1), ne-eqb n 12 (middle .1))
-    (rw (ne-eqb n 13 (last .0 .0 .0 .0 .0 .1), ne-eqb n 14 (last .0 .0 .0 .0 .1), ne-eqb n 15 (last .0 .0 .0 .1), ne-eqb n 16 (last .0 .0 .1), ne-eqb n 17 (last .0 .1), ne-eqb n 18 (last .1))))
+    (rw (ne-eqb n 13 (third .0 .0 .0 .0 .0 .1), ne-eqb n 14 (third .0 .0 .0 .0 .1), ne-eqb n 15 (third .0 .0 .0 .1), ne-eqb n 16 (third .0 .0 .1), ne-eqb n 17 (third .0 .1), ne-eqb n 18 (third .1))
+    (rw (ne-eqb n 19 (last .0 .1), ne-eqb n 20 (last .1)))))
 
 pub call-of-spec : {M : Type 1} → statement M
 call-of-spec =
     tie.close
     (tie.spec (λ c κs. search needs) (λ c κs. search needs) (λ c κs. search needs) returns returns-2 (λ c. search needs) returns-3 returns-4 returns-5
     returns-6 returns-7 returns-8 returns-9 returns-10 returns-11 returns-12 returns-13 returns-14 returns-15 returns-16 returns-17 returns-18
-    returns-19 returns-20 returns-21)
+    returns-19 returns-20 returns-21 returns-22 returns-23)

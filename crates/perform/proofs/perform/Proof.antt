@@ -93,6 +93,12 @@ resize-requires c κs = panel-lent (given (c .before .before .before .before .be
 blit-requires : tie.Need-blit-requires
 blit-requires c κs = given (c .before .before .before .before .before .before)
 
+move-to-requires : tie.Need-move-to-requires
+move-to-requires c κs = record-lent (given (c .before .before .before .before))
+
+line-to-requires : tie.Need-line-to-requires
+line-to-requires c κs = given (c .before .before .before .before .before .before)
+
 returns-2 : tie.Need-returns-2
 unfolding act
 returns-2 c =
@@ -215,6 +221,19 @@ returns-19 c =
     let a = b .before .before .before .before .before in
     made (a .before .before) (a .call17 .given .1) (b .blit .ensures)
 
+returns-20 : tie.Need-returns-20
+unfolding act
+returns-20 c =
+    let a = c .before .before .before .before .before in
+    made (a .before .before) (a .call18 .given .1) (c .before .before .move-to .ensures _)
+
+returns-21 : tie.Need-returns-21
+unfolding act
+returns-21 c =
+    let l = c .before .before .before .before .before .before in
+    let a = l .before .before .before .before .before in
+    made (a .before .before) (a .call19 .given .1) (l .line-to .ensures)
+
 pub perform-spec : {M : Type 1} → statement M
 perform-spec =
     tie.close
@@ -227,7 +246,8 @@ perform-spec =
     set-bk-color-requires (λ c. search needs) set-bk-mode-requires (λ c. search needs)
     pattern-fill-requires (λ c. search needs) rectangle-requires (λ c. search needs)
     text-out-requires (λ c. search needs) fill-requires (λ c. search needs) resize-requires
-    (λ c. search needs) blit-requires (λ c. search needs) (λ c. search needs) returns-2
+    (λ c. search needs) blit-requires (λ c. search needs) move-to-requires (λ c. search needs) line-to-requires
+    (λ c. search needs) (λ c. search needs) returns-2
     (λ c. search needs) (λ c. search needs) returns-3 (λ c. search needs) (λ c. search needs)
     returns-4 (λ c. search needs) (λ c. search needs) returns-5 (λ c. search needs)
     (λ c. search needs) returns-6 (λ c. search needs) (λ c. search needs) returns-7
@@ -237,4 +257,5 @@ perform-spec =
     returns-14 (λ c. search needs) (λ c. search needs) (λ c. search needs) returns-15
     (λ c. search needs) (λ c. search needs) (λ c. search needs) returns-16 (λ c. search needs)
     (λ c. search needs) returns-17 (λ c. search needs) (λ c. search needs) returns-18
-    (λ c. search needs) (λ c. search needs) (λ c. search needs) returns-19)
+    (λ c. search needs) (λ c. search needs) (λ c. search needs) returns-19 (λ c. search needs) returns-20
+    (λ c. search needs) (λ c. search needs) (λ c. search needs) returns-21)

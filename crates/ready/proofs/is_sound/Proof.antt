@@ -5,7 +5,7 @@ use native.Mathlib.Omega.{arith}
 use borrow.Author.Tests.{not-true, not-false}
 use Rattle.numbers.specs.Layout.{panelLenPlace, storeLenPlace, widthPlace, heightPlace}
 use Rattle.numbers.specs.Block.{at}
-use Rattle.numbers.proofs.Seen.{panel-len-seen, store-len-seen, width-seen, height-seen}
+use Rattle.numbers.proofs.Seen.{screen-seen, panel-len-seen, store-len-seen, width-seen, height-seen}
 use Rattle.well_formed.proofs.Tested.{head-long, head-few}
 use Rattle.sound.proofs.Bytes.{area}
 use Rattle.sound.proofs.Slots.{ended, not-ended}
@@ -141,9 +141,24 @@ handles-differ-requires c κs =
 returns-8 : tie.Need-returns-8
 returns-8 c = unsound-record _ (λ r s. failed (c .before .handles-differ .ensures) (c .if8 .taken) (s .apart))
 
+is-positioned-requires : tie.Need-is-positioned-requires
+is-positioned-requires c κs =
+    let i = c .before .before .before .before .before .before .before .before .before .before .before .before .before .before .before .before .before in
+    let a = i .before in
+    let s = a .before .before in
+    omega (arith, head-long (s .args .numbers .now) (passed (a .is-head .ensures) (i .if1 .left)))
+
 returns-9 : tie.Need-returns-9
 returns-9 c =
-    let h = c .before in
+    let p = c .before in
+    let a = p .before .before .before .before .before .before .before .before .before .before .before .before .before .before .before .before .before .before .before .before .before in
+    unsound-record _ (λ r s. failed (p .is-positioned .ensures) (c .if9 .taken) (rw (screen-seen (a .args .numbers .now)) at (s .screen)))
+
+returns-10 : tie.Need-returns-10
+returns-10 c =
+    let p = c .before in
+    let q = p .before in
+    let h = q .before in
     let i = h .before in
     let s = i .before in
     let a = s .before in
@@ -168,8 +183,9 @@ returns-9 c =
     (passed (g .is-side .ensures) (e .if4 .left))
     (passed (d .is-side2 .ensures) (b .if5 .left))
     (a .if6 .left)
+    (rw (screen-seen (o .args .numbers .now)) (passed (p .is-positioned .ensures) (c .if9 .left)))
     (f .1 .0)
-    (passed (h .handles-differ .ensures) (c .if8 .left))
+    (passed (h .handles-differ .ensures) (q .if8 .left))
     (f .1 .1))
 
 pub is-sound-spec : {M : Type 1} → statement M
@@ -179,4 +195,4 @@ is-sound-spec =
     shared-slice-read-store-len cast-store-len returns-3 shared-slice-read-is-side
     (λ c κs. search needs) returns-4 shared-slice-read-is-side-2 (λ c κs. search needs) returns-5
     shared-slice-read-w cast-w shared-slice-read-h cast-h mul-if6 mul-if6-2 returns-6
-    scan-slots-requires returns-7 handles-differ-requires returns-8 returns-9)
+    scan-slots-requires returns-7 handles-differ-requires returns-8 is-positioned-requires returns-9 returns-10)

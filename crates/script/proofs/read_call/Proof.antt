@@ -23,7 +23,7 @@ returns c =
     let a = c .before .before .before .before .args in
     record {
       same = rw (lt-ltb (a .at) (length (now (a .s))) (c .before .before .if1 .taken)) (c .read-entry .ensures);
-      behind = rw (c .read-entry .ensures) (entry-behind (now (a .s)) (a .at) (getD (now (a .s)) (a .at) 0));
+      behind = rw (c .read-entry .ensures) (entry-behind (now (a .s)) (a .at) (a .requests) (getD (now (a .s)) (a .at) 0));
     }
 
 returns-2 : tie.Need-returns-2

@@ -7,10 +7,10 @@ use Rattle.records.proofs.tried.by_others.Statement.{statement}
 use Rattle.records.proofs.tried.by_others.Tie as tie
 
 abbrev Inv-loop : tie.InvT-loop
-Inv-loop l no' was panel₀ store₀ k₀ panel store k = (length panel ≡ length panel₀) × ((length store ≡ length store₀) × (k ≤ 19))
+Inv-loop l no' was panel₀ store₀ k₀ panel store k = (length panel ≡ length panel₀) × ((length store ≡ length store₀) × (k ≤ 21))
 
 abbrev μ-loop : tie.MeasureT-loop
-μ-loop l no' was panel₀ store₀ k₀ panel store k = 19 - k
+μ-loop l no' was panel₀ store₀ k₀ panel store k = 21 - k
 
 loop-holds : tie.Need-loop-holds Inv-loop μ-loop
 loop-holds c = search needs

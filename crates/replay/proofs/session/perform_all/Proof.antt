@@ -10,12 +10,12 @@ use Rattle.replay.proofs.session.perform_all.Statement.{statement}
 use Rattle.replay.proofs.session.perform_all.Tie as tie
 
 abbrev Inv-loop : tie.InvT-loop
-Inv-loop s shown device₀ panel₀ store₀ units₀ at₀ device panel store units at =
+Inv-loop s requests shown device₀ panel₀ store₀ units₀ at₀ device panel store units at =
     (length device ≡ length device₀)
     × ((length panel ≡ length panel₀) × ((length store ≡ length store₀) × (length units ≡ 70000)))
 
 abbrev μ-loop : tie.MeasureT-loop
-μ-loop s shown device₀ panel₀ store₀ units₀ at₀ device panel store units at = length s - at
+μ-loop s requests shown device₀ panel₀ store₀ units₀ at₀ device panel store units at = length s - at
 
 loop-holds : tie.Need-loop-holds Inv-loop μ-loop
 loop-holds c = (refl, (refl, (refl, sym (zeros 70000))))

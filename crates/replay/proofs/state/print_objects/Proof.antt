@@ -6,10 +6,10 @@ use Rattle.replay.proofs.state.print_objects.Statement.{statement}
 use Rattle.replay.proofs.state.print_objects.Tie as tie
 
 abbrev Inv-loop : tie.InvT-loop
-Inv-loop device count i₀ i = i ≤ 256
+Inv-loop device requests count i₀ i = i ≤ 256
 
 abbrev μ-loop : tie.MeasureT-loop
-μ-loop device count i₀ i = 256 - i
+μ-loop device requests count i₀ i = 256 - i
 
 shared-slice-read-count : tie.Need-shared-slice-read-count Inv-loop μ-loop
 shared-slice-read-count c = search needs
