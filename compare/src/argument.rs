@@ -1,5 +1,6 @@
 //! The arguments of cases and calls in a script, most significant byte first.
 
+use std::fmt::LowerHex;
 use std::marker::PhantomData;
 
 /// An argument: a number with a fixed number of bits, or a list of such numbers.
@@ -41,44 +42,52 @@ macro_rules! numbers {
 
 numbers!(u8 u16 u32 u64 i32);
 
-/// How many units of a text are shown.
+/// How many numbers of a list are shown.
 const SHOWN: usize = 255;
 
-/// Units of 16 bits, with their number before them as an `N`.
+/// Numbers of one type, with their number before them as an `N`.
 #[derive(Clone, Debug, PartialEq)]
-pub struct Units<N>(Vec<u16>, PhantomData<N>);
+pub struct List<N, T>(Vec<T>, PhantomData<N>);
 
-impl<N: TryFrom<usize>> Units<N> {
-    /// The units; `None` if there are too many.
-    pub fn new(units: Vec<u16>) -> Option<Self> {
-        N::try_from(units.len()).is_ok().then_some(Self(units, PhantomData))
+/// Units of 16 bits.
+pub type Units<N> = List<N, u16>;
+
+impl<N: TryFrom<usize>, T> List<N, T> {
+    /// The list; `None` if there are too many.
+    pub fn new(numbers: Vec<T>) -> Option<Self> {
+        N::try_from(numbers.len()).is_ok().then_some(Self(numbers, PhantomData))
     }
 }
 
-impl<N> Units<N> {
-    pub fn as_slice(&self) -> &[u16] {
+impl<N, T> List<N, T> {
+    pub fn as_slice(&self) -> &[T] {
         &self.0
     }
 }
 
-impl<N: Argument + TryFrom<usize> + Into<u64>> Argument for Units<N> {
+impl<N, T> Argument for List<N, T>
+where
+    N: Argument + TryFrom<usize> + Into<u64>,
+    T: Argument + LowerHex,
+{
     fn read(script: &mut &[u8]) -> Option<Self> {
         let count = N::read(script)?;
-        let units = (0..count.into()).map(|_| u16::read(script));
-        units.collect::<Option<_>>().and_then(Self::new)
+        let numbers = (0..count.into()).map(|_| T::read(script));
+        numbers.collect::<Option<_>>().and_then(Self::new)
     }
 
     fn write(&self, script: &mut Vec<u8>) {
         let count = N::try_from(self.0.len()).ok();
         count.expect("there are not too many").write(script);
-        self.0.iter().for_each(|unit| unit.write(script));
+        self.0.iter().for_each(|number| number.write(script));
     }
 
     fn shown(&self) -> String {
         let first = &self.0[..self.0.len().min(SHOWN)];
         let more = self.0.len() - first.len();
         let more = if more == 0 { String::new() } else { format!(" and {more} more") };
-        format!("{first:x?}{more}")
+        let first: Vec<String> = first.iter().map(|number| format!("{number:x}")).collect();
+        format!("[{}]{more}", first.join(", "))
     }
 }
 

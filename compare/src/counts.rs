@@ -18,6 +18,11 @@ impl<const N: usize> Counts<N> {
         self.counts[self.at(name)] += 1;
     }
 
+    /// Adds the counts of others with the same names.
+    pub fn merge(&mut self, other: &Self) {
+        self.counts.iter_mut().zip(other.counts).for_each(|(count, more)| *count += more);
+    }
+
     fn at(&self, name: &str) -> usize {
         let at = self.names.iter().position(|known| *known == name);
         at.unwrap_or_else(|| panic!("there is no count named {name}"))

@@ -7,14 +7,14 @@
    Slices are a pointer and a length each. What a caller has to guarantee:
    - Each pointer points to as many elements as its length says.
    - A slice that a function writes overlaps no other slice of the same call. So no two of these overlap at open: numbers, panel
-     memory, store; and at a call: numbers, units, panel memory, store. At a snapshot the output overlaps neither the numbers nor
-     the panel memory.
-   - Numbers are aligned as uint32_t and units as uint16_t. Panel memory, store and output need no alignment.
+     memory, store; at a call: numbers, units, panel memory, store; and at a load: numbers, bytes, panel memory, store. At a
+     snapshot the output overlaps neither the numbers nor the panel memory, and at a save it does not overlap the numbers.
+   - Numbers are aligned as uint32_t and units as uint16_t. Panel memory, store, output and a table's bytes need no alignment.
    - A slice of length 0 may have any pointer, NULL too. Nothing is read or written through it: every access of a proved function
      lies inside a slice, and an empty one has no element.
 
-   A function that cannot serve a call refuses it with a number. A refused call or snapshot changes no number and no byte. A refused
-   open changes no byte of the memories, but it writes the record: see ravinefork_open. */
+   A function that cannot serve a call refuses it with a number. A refused call, save, load or snapshot changes no number and no
+   byte. A refused open changes no byte of the memories, but it writes the record: see ravinefork_open. */
 #ifndef RAVINEFORK_H
 #define RAVINEFORK_H
 
@@ -32,6 +32,7 @@ extern "C" {
 #define RAVINEFORK_MAX_MEMORY 33554432
 #define RAVINEFORK_MIN_POSITION (-32768)
 #define RAVINEFORK_MAX_POSITION 32767
+#define RAVINEFORK_MAX_TABLE 12502
 
 /* The device's numbers. */
 #define RAVINEFORK_PANEL_LEN 0
@@ -99,7 +100,7 @@ extern "C" {
 #define RAVINEFORK_MOVE_TO 19                 /* dc, x, y */
 #define RAVINEFORK_LINE_TO 20                 /* dc, x, y */
 
-/* Refusals, each number once. 12 to 19 are kept for calls that are added later. */
+/* Refusals, each number once. 14 to 19 are kept for calls that are added later. */
 #define RAVINEFORK_NO_DC 1
 #define RAVINEFORK_NO_SURFACE 2
 #define RAVINEFORK_NO_SOURCE_DC 3
@@ -111,6 +112,8 @@ extern "C" {
 #define RAVINEFORK_UNSOUND_RECORD 9
 #define RAVINEFORK_TEXT_TOO_LONG 10
 #define RAVINEFORK_POSITION 11
+#define RAVINEFORK_TABLE 12
+#define RAVINEFORK_OUTPUT_TOO_SHORT 13
 #define RAVINEFORK_NO_CALL 255
 
 /* A call. Fields that the call does not name are not read. */
@@ -141,6 +144,12 @@ typedef struct ravinefork_reply {
     uint32_t fields[14];
 } ravinefork_reply;
 
+/* The answer of a save: the number of the refusal, 0 if it is accepted; the table's length, 0 if it is refused. */
+typedef struct ravinefork_saving {
+    uint32_t refusal;
+    uint32_t length;
+} ravinefork_saving;
+
 /* Opens a device with a panel of these sides. Returns the number of the refusal, 0 if it is accepted.
    Accepted, it writes a fresh record and makes the panel and the stock bitmap's pixel black.
    Refused with 6, 8 or 7, it writes a record with lengths and sides 0, no object, and otherwise as fresh: the first
@@ -152,6 +161,18 @@ uint32_t ravinefork_open(uint32_t *numbers, size_t numbers_len, uint8_t *panel, 
 /* Performs a call. The units are those of a text; other calls do not read them. */
 ravinefork_reply ravinefork_perform(uint32_t *numbers, size_t numbers_len, ravinefork_call call, const uint16_t *units,
                                     size_t units_len, uint8_t *panel, size_t panel_len, uint8_t *store, size_t store_len);
+
+/* Writes the record's table to the front of the output: the created objects with their handles, the screen DC, the panel's sides
+   and the next handle, without a pixel. It has RAVINEFORK_MAX_TABLE bytes at most; the output past it is unchanged. Refused with 9,
+   then with 13 if the output is shorter than the table. */
+ravinefork_saving ravinefork_save(const uint32_t *numbers, size_t numbers_len, uint8_t *out, size_t out_len);
+
+/* Loads a table. The record is then the saved one, with the memory lengths, the frame counter and the stock bitmap's mark of the
+   record before. The loaded panel and every byte of the store past the stock bitmap become 0, with one mark of the panel. Refused
+   with 9, 8, then 12 if the bytes are not exactly one table, then 7 if a memory is too short for its panel or its bitmaps. The
+   reply has a refusal and nothing else. */
+ravinefork_reply ravinefork_load(uint32_t *numbers, size_t numbers_len, const uint8_t *bytes, size_t bytes_len, uint8_t *panel,
+                                 size_t panel_len, uint8_t *store, size_t store_len);
 
 /* Snapshots of the panel. They return the number of the refusal, 0 if accepted; a refused one does not change the output. */
 

@@ -61,6 +61,11 @@ impl<M: AsRef<[u8]> + AsMut<[u8]>> Device<M> {
         (self.record, self.panel, self.store)
     }
 
+    /// The record, the panel memory and the store, borrowed.
+    pub(crate) fn parts_mut(&mut self) -> (&mut Record, &mut [u8], &mut [u8]) {
+        (&mut self.record, self.panel.as_mut(), self.store.as_mut())
+    }
+
     /// The record.
     pub fn record(&self) -> &Record {
         &self.record
@@ -108,7 +113,8 @@ impl<M: AsRef<[u8]> + AsMut<[u8]>> Device<M> {
 
     /// Performs a call that is given as numbers.
     pub fn perform(&mut self, call: &HostCall, units: &[u16]) -> Reply {
-        self.record.perform(call, units, self.panel.as_mut(), self.store.as_mut())
+        let (record, panel, store) = self.parts_mut();
+        record.perform(call, units, panel, store)
     }
 
     /// Performs a call. Returns its answer, or its refusal.

@@ -9,6 +9,9 @@
 //! A refused [`Record::open`] writes the record and changes no byte. No input
 //! makes a call panic.
 //!
+//! [`Device::save`] gives the table of a device, its objects and settings without a
+//! pixel, as bytes; [`Device::load`] takes them back after a restart.
+//!
 //! ```
 //! use ravinefork::{Area, Device, Colorref, Handle, Point};
 //!
@@ -45,6 +48,7 @@ mod record;
 mod refusal;
 pub mod rop3;
 pub mod snapshot;
+mod table;
 
 pub use device::Device;
 pub use ffi::{HostCall, Reply};
@@ -76,3 +80,5 @@ pub const NO_OBJECT: u32 = 5;
 pub const MAX_SIDE: u32 = 4096;
 /// The length of the longest memory.
 pub const MAX_MEMORY: usize = 33_554_432;
+/// The length of the longest saved table, that of 256 DCs.
+pub const MAX_TABLE: usize = 12_502;

@@ -30,8 +30,8 @@ impl Record {
         Record { numbers: vec![0; RECORD].into() }
     }
 
-    /// A record from its numbers. To load a device, load its numbers and its
-    /// memories.
+    /// A record from its numbers. They and the memories are a whole device, pixels
+    /// too; [`load`](Record::load) reads a saved table instead.
     pub fn from_numbers(numbers: impl Into<Box<[u32]>>) -> Record {
         Record { numbers: numbers.into() }
     }
@@ -39,6 +39,10 @@ impl Record {
     /// The numbers, those past the last object too.
     pub fn as_numbers(&self) -> &[u32] {
         &self.numbers
+    }
+
+    pub(crate) fn numbers_mut(&mut self) -> &mut [u32] {
+        &mut self.numbers
     }
 
     /// The numbers, those past the last object too.

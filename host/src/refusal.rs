@@ -7,8 +7,8 @@ use std::num::NonZeroU32;
 /// The number with which a function refuses. It is never 0, which stands for
 /// 'accepted' in a [`Reply`](crate::Reply).
 ///
-/// A refused call or snapshot changes no number of the record and no byte that
-/// it was lent. A refused [`open`](crate::Record::open) changes no byte either,
+/// A refused call, save, load or snapshot changes no number of the record and no
+/// byte that it was lent. A refused [`open`](crate::Record::open) changes no byte either,
 /// but it writes the record: see there.
 #[derive(Clone, Copy, Debug, PartialEq, Eq, Hash, PartialOrd, Ord)]
 pub struct Refusal(NonZeroU32);
@@ -45,8 +45,9 @@ refusals! {
     TOO_MANY_OBJECTS = 5: "256 created objects are live";
     /// A side is outside its limits.
     SIDE = 6: "a side is outside its limits";
-    /// The panel memory or the store is too short: for the panel at open and at a
-    /// resize, for the stock bitmap at open, for a new bitmap.
+    /// The panel memory or the store is too short: for the panel at open, at a
+    /// resize and at a load, for the stock bitmap at open, for a new bitmap and for
+    /// the bitmaps of a load.
     TOO_SHORT = 7: "the panel memory or the store is too short";
     /// A memory has a wrong length: above the limit at open, not the record's at a
     /// call, not the picture's at a snapshot.
@@ -58,7 +59,11 @@ refusals! {
     /// A position is outside [`MIN_POSITION`](crate::MIN_POSITION) to
     /// [`MAX_POSITION`](crate::MAX_POSITION).
     POSITION = 11: "a position is outside -32,768 to 32,767";
-    // 12 to 19 are kept for calls that are added later.
+    /// The bytes to load are not exactly one saved table.
+    TABLE = 12: "the bytes are not exactly one saved table";
+    /// The output of a save is shorter than the table.
+    OUTPUT_TOO_SHORT = 13: "the output is shorter than the table";
+    // 14 to 19 are kept for calls that are added later.
     /// The numbers are no call.
     NO_CALL = 255: "no such call";
 }

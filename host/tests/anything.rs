@@ -1,11 +1,13 @@
-//! Calls with any numbers as record and call: there is no fault, no byte outside
-//! the lent memories changes, a refused call changes nothing, and an accepted call
-//! leaves a sound record.
+//! Calls with any numbers as record and call, and loads of any bytes: there is no
+//! fault, no byte outside the lent memories changes, a refused call changes nothing,
+//! and an accepted call leaves a sound record.
 
 mod random;
 
 use random::Random;
-use ravinefork::{call, Colorref, Device, HostCall, Record, Refusal, SCREEN, SLOT, SLOTS};
+use ravinefork::{
+    call, Colorref, Device, HostCall, Record, Refusal, MAX_TABLE, SCREEN, SLOT, SLOTS,
+};
 
 /// Rounds, and calls on each record.
 const ROUNDS: u32 = 400;
@@ -101,4 +103,52 @@ fn any_numbers() {
     let all = [0, 1, 2, 3, 4, 6, 7, 8, 9, 11, 255];
     assert!(all.iter().all(|number| counts.contains_key(number)), "{counts:?}");
     assert!(positioned.iter().all(|&accepted| accepted > 100), "moves and lines: {positioned:?}");
+}
+
+/// A table that is often damaged, cut, lengthened or replaced by other bytes.
+fn damaged(random: &mut Random, mut table: Vec<u8>) -> Vec<u8> {
+    for _ in 0..random.below(3) {
+        let bit = random.below(8 * table.len() as u32) as usize;
+        table[bit / 8] ^= 0x80 >> (bit % 8);
+    }
+    match random.below(8) {
+        0 => table.truncate(random.below(table.len() as u32) as usize),
+        1 => table.extend((0..random.below(60)).map(|_| random.of(&[0, 0, 0xFF]))),
+        2 => table.fill_with(|| random.below(256) as u8),
+        _ => {}
+    }
+    table
+}
+
+#[test]
+fn any_bytes() {
+    let mut random = Random::new(3);
+    let mut counts = std::collections::BTreeMap::new();
+    for _ in 0..ROUNDS {
+        let (saved, ..) = device(&mut random).expect("a device");
+        let (mut record, panel, store) = device(&mut random).expect("a device");
+        let (mut panel, mut store) = (guarded(&panel), guarded(&store));
+        for _ in 0..CALLS {
+            let mut table = vec![0x77; MAX_TABLE];
+            let length = saved.save_into(&mut table).expect("a table");
+            assert!(table[length..].iter().all(|&byte| byte == 0x77));
+            table.truncate(length);
+            let bytes = damaged(&mut random, table);
+            let before = (record.clone(), panel.clone(), store.clone());
+            let answer = record.load(&bytes, inner(&mut panel), inner(&mut store));
+            *counts.entry(answer.err().map(Refusal::number)).or_insert(0) += 1;
+            assert!(is_guarded(&panel) && is_guarded(&store), "{bytes:x?}");
+            if answer.is_err() {
+                assert!(record.as_numbers() == before.0.as_numbers(), "{bytes:x?}");
+                assert!((&panel, &store) == (&before.1, &before.2), "{bytes:x?}");
+            } else {
+                let mut again = vec![0; bytes.len()];
+                assert_eq!(record.save_into(&mut again), Ok(bytes.len()), "{bytes:x?}");
+                assert!(again == bytes, "{bytes:x?}");
+                assert_eq!(record.slots().count(), record.count());
+            }
+        }
+    }
+    println!("{counts:?}");
+    assert!([None, Some(7), Some(12)].iter().all(|answer| counts[answer] > 1000), "{counts:?}");
 }

@@ -1,9 +1,11 @@
-/* Opens a device, draws on it, and prints the answers and the panel. LAYOUT is a list of assertions: the sizes and offsets of the
-   header's structs, and the numbers that it names, must be those of the Rust declarations. */
+/* Opens a device, draws on it, prints the answers and the panel, and loads its table into another device. LAYOUT is a list of
+   assertions: the sizes and offsets of the header's structs, and the numbers that it names, must be those of the Rust
+   declarations. */
 #include "ravinefork.h"
 
 #include <stdio.h>
 #include <stdlib.h>
+#include <string.h>
 
 #define AT(type, field, offset) _Static_assert(offsetof(type, field) == (offset), #field);
 #define SIZE(type, size) _Static_assert(sizeof(type) == (size), #type);
@@ -25,6 +27,36 @@ static ravinefork_reply accepted(ravinefork_call call, const uint16_t *units, si
         exit(1);
     }
     return reply;
+}
+
+/* Saves the device's table, loads it into another device with longer memories, and saves it there. */
+static void restart(void) {
+    static uint32_t others[RAVINEFORK_RECORD];
+    static uint8_t other_panel[sizeof panel + 2], other_store[sizeof store + 2], table[RAVINEFORK_MAX_TABLE], again[sizeof table];
+    memset(other_panel, 0x5A, sizeof other_panel);
+    memset(other_store, 0xA5, sizeof other_store);
+    memset(table, 0xC3, sizeof table);
+    memset(again, 0xC3, sizeof again);
+    size_t room = RAVINEFORK_MAX_TABLE;
+    ravinefork_saving saved = ravinefork_save(numbers, RAVINEFORK_RECORD, table, room);
+    printf("saved %u, %u bytes, form %u\n", (unsigned)saved.refusal, (unsigned)saved.length, table[0] >> 4);
+    ravinefork_saving shorter = ravinefork_save(numbers, RAVINEFORK_RECORD, again, saved.length - 1);
+    printf("short output %u, %u bytes, first %02x\n", (unsigned)shorter.refusal, (unsigned)shorter.length, again[0]);
+
+    ravinefork_open(others, RAVINEFORK_RECORD, other_panel, sizeof other_panel, other_store, sizeof other_store, 3, 2);
+    ravinefork_reply cut = ravinefork_load(others, RAVINEFORK_RECORD, table, saved.length - 1, other_panel, sizeof other_panel,
+                                           other_store, sizeof other_store);
+    printf("no table %u, width %u\n", (unsigned)cut.refusal, (unsigned)others[RAVINEFORK_WIDTH]);
+    ravinefork_reply loaded = ravinefork_load(others, RAVINEFORK_RECORD, table, saved.length, other_panel, sizeof other_panel,
+                                              other_store, sizeof other_store);
+    printf("loaded %u %u %u %d %d %u %u\n", (unsigned)loaded.refusal, (unsigned)loaded.value, (unsigned)loaded.flag, (int)loaded.x,
+           (int)loaded.y, (unsigned)loaded.kind, (unsigned)loaded.fields[0]);
+    printf("width %u, frames %u, pen %08x\n", (unsigned)others[RAVINEFORK_WIDTH], (unsigned)others[RAVINEFORK_FRAME_COUNTER_LOW],
+           (unsigned)others[RAVINEFORK_SCREEN + 4]);
+    printf("panel %02x %02x, store %02x %02x\n", other_panel[sizeof panel - 1], other_panel[sizeof panel], other_store[2],
+           other_store[sizeof store + 1]);
+    ravinefork_saving second = ravinefork_save(others, RAVINEFORK_RECORD, again, room);
+    printf("saved again %u, %s\n", (unsigned)second.refusal, memcmp(table, again, room) == 0 ? "the same bytes" : "other bytes");
 }
 
 int main(void) {
@@ -74,5 +106,6 @@ int main(void) {
         }
         putchar('\n');
     }
+    restart();
     return 0;
 }

@@ -20,6 +20,14 @@ static void answered(const char *what, ravinefork_reply reply) {
     printf("text, %s: %u %u\n", what, (unsigned)reply.refusal, (unsigned)reply.value);
 }
 
+static void saved(const char *what, ravinefork_saving saving) {
+    printf("save, %s: %u %u\n", what, (unsigned)saving.refusal, (unsigned)saving.length);
+}
+
+static void loaded(const char *what, ravinefork_reply reply) {
+    printf("load, %s: %u\n", what, (unsigned)reply.refusal);
+}
+
 int main(void) {
     const ravinefork_call text = {.call = RAVINEFORK_TEXT, .dc = RAVINEFORK_GDI_SCREEN_DC};
     const uint16_t unit[] = {'A'};
@@ -41,6 +49,19 @@ int main(void) {
     answered("no store", ravinefork_perform(numbers, RAVINEFORK_RECORD, text, NONE, panel, sizeof panel, NONE));
     answered("no panel memory", ravinefork_perform(numbers, RAVINEFORK_RECORD, text, NONE, NONE, store, sizeof store));
     answered("no numbers", ravinefork_perform(NONE, text, NONE, panel, sizeof panel, store, sizeof store));
+
+    uint8_t table[RAVINEFORK_MAX_TABLE];
+    memset(table, 0xC3, sizeof table);
+    saved("no output", ravinefork_save(numbers, RAVINEFORK_RECORD, NONE));
+    saved("no numbers", ravinefork_save(NONE, table, sizeof table));
+    saved("nothing", ravinefork_save(NONE, NONE));
+    saved("an output", ravinefork_save(numbers, RAVINEFORK_RECORD, table, sizeof table));
+    loaded("no bytes", ravinefork_load(numbers, RAVINEFORK_RECORD, NONE, panel, sizeof panel, store, sizeof store));
+    loaded("no store", ravinefork_load(numbers, RAVINEFORK_RECORD, table, 54, panel, sizeof panel, NONE));
+    loaded("no panel memory", ravinefork_load(numbers, RAVINEFORK_RECORD, table, 54, NONE, store, sizeof store));
+    loaded("no numbers", ravinefork_load(NONE, table, 54, panel, sizeof panel, store, sizeof store));
+    loaded("nothing", ravinefork_load(NONE, NONE, NONE, NONE));
+    loaded("a table", ravinefork_load(numbers, RAVINEFORK_RECORD, table, 54, panel, sizeof panel, store, sizeof store));
 
     printf("snapshots, no output: %u %u\n",
            (unsigned)ravinefork_snapshot_rgba8888(numbers, RAVINEFORK_RECORD, panel, sizeof panel, NONE),

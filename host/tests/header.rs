@@ -9,7 +9,8 @@ use std::process::Command;
 
 use ravinefork::{
     call, rop3, Area, Colorref, Device, Handle, HostCall, Point, Refusal, Reply, MAX_MEMORY,
-    MAX_OBJECTS, MAX_POSITION, MAX_SIDE, MIN_POSITION, NO_OBJECT, RECORD, SCREEN, SLOT, SLOTS,
+    MAX_OBJECTS, MAX_POSITION, MAX_SIDE, MAX_TABLE, MIN_POSITION, NO_OBJECT, RECORD, SCREEN, SLOT,
+    SLOTS,
 };
 
 const FOLDER: &str = env!("CARGO_MANIFEST_DIR");
@@ -28,6 +29,8 @@ fn layout() -> String {
     }
     layout!(ravinefork_call HostCall: call dc src a b x y w h src_x src_y);
     layout!(ravinefork_reply Reply: refusal value flag x y kind fields);
+    asserts += " SIZE(ravinefork_saving, 8) AT(ravinefork_saving, refusal, 0)";
+    asserts += " AT(ravinefork_saving, length, 4)";
     macro_rules! numbers {
         ($($name:ident $number:expr),* $(,)?) => {
             $(asserts += &format!(
@@ -45,7 +48,7 @@ fn layout() -> String {
         ($($name:ident)*) => { numbers!($($name call::$name),*) };
     }
     numbers!(RECORD RECORD, SCREEN SCREEN, MAX_OBJECTS MAX_OBJECTS, MAX_SIDE MAX_SIDE);
-    numbers!(MAX_MEMORY MAX_MEMORY, NO_OBJECT NO_OBJECT);
+    numbers!(MAX_MEMORY MAX_MEMORY, MAX_TABLE MAX_TABLE, NO_OBJECT NO_OBJECT);
     for (i, slot) in [SLOTS, SLOTS + SLOT].into_iter().enumerate() {
         asserts += &format!(" _Static_assert(RAVINEFORK_SLOT({i}) == {slot}, \"\");");
     }
@@ -60,7 +63,8 @@ fn layout() -> String {
     handles!(STOCK_BLACK_PEN STOCK_NULL_PEN STOCK_DKGRAY_BRUSH STOCK_SYSTEM_FONT);
     handles!(STOCK_DEFAULT_BITMAP);
     refusals!(NO_DC NO_SURFACE NO_SOURCE_DC NO_SOURCE_SURFACE TOO_MANY_OBJECTS SIDE);
-    refusals!(TOO_SHORT LENGTH UNSOUND_RECORD TEXT_TOO_LONG POSITION NO_CALL);
+    refusals!(TOO_SHORT LENGTH UNSOUND_RECORD TEXT_TOO_LONG POSITION TABLE OUTPUT_TOO_SHORT);
+    refusals!(NO_CALL);
     asserts
 }
 
@@ -151,7 +155,10 @@ fn a_host_in_c() {
                  removed 3: 000000ff 3\nno DC 1\nno call 255\nno text 0\nno memory 8\nno record 9\nframes 5\n";
     let picture = picture().expect("a picture");
     println!("{picture}");
-    assert_eq!(output_of(program), format!("{lines}{picture}"));
+    let restart = "saved 0, 54 bytes, form 1\nshort output 13, 0 bytes, first c3\nno table 12, width 3\n\
+                   loaded 0 0 0 0 0 5 0\nwidth 24, frames 1, pen dead1000\npanel 00 5a, store 00 00\n\
+                   saved again 0, the same bytes\n";
+    assert_eq!(output_of(program), format!("{lines}{picture}{restart}"));
 }
 
 #[test]
@@ -170,6 +177,16 @@ fn null_with_length_0() {
         text, no store: 8 0\n\
         text, no panel memory: 8 0\n\
         text, no numbers: 9 0\n\
+        save, no output: 13 0\n\
+        save, no numbers: 9 0\n\
+        save, nothing: 9 0\n\
+        save, an output: 0 54\n\
+        load, no bytes: 12\n\
+        load, no store: 8\n\
+        load, no panel memory: 8\n\
+        load, no numbers: 9\n\
+        load, nothing: 9\n\
+        load, a table: 0\n\
         snapshots, no output: 8 8\n\
         snapshots, nothing: 9 9\n";
     assert_eq!(output_of(program), lines);

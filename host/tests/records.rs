@@ -1,13 +1,13 @@
-//! Makes every call on each of the committed records (docs/record-cases.md). The
-//! refusals are those of the specification's list, and a refused call changes
+//! Makes every call on each of the committed records (docs/record-cases.md), loads a
+//! table into it and saves it. The refusals are those of the specification's list, and a refused call changes
 //! nothing. The screen DC draws on the panel whatever its surface field holds.
 //! Records are equal if the numbers up to the last object are.
 
 use std::fs;
 
 use ravinefork::{
-    call, rop3, Area, DcSurface, Device, Handle, HostCall, Point, Record, DC, RECORD, SCREEN, SLOT,
-    SLOTS,
+    call, rop3, Area, DcSurface, Device, Handle, HostCall, Point, Record, Refusal, DC, MAX_TABLE,
+    RECORD, SCREEN, SLOT, SLOTS,
 };
 
 const FOLDER: &str = concat!(env!("CARGO_MANIFEST_DIR"), "/../crates/records");
@@ -96,6 +96,23 @@ fn blackens(call: u32) -> bool {
     matches!(call, call::PATTERN_FILL | call::RECTANGLE | call::BLIT)
 }
 
+/// Loads the table of a fresh device into the record, and saves the record. A save
+/// takes no memory, so it is not refused with 8.
+fn load_and_save(numbers: &[u32], memories: &[Vec<u8>; 2], number: &str) {
+    let fresh = Device::open(1, 1, 2, 2).and_then(|device| device.save()).expect("a table");
+    let mut record = Record::from_numbers(numbers);
+    let [mut panel, mut store] = memories.clone();
+    let loaded = record.load(&fresh, &mut panel, &mut store);
+    assert_eq!(loaded.err().map_or(0, Refusal::number).to_string(), number, "load");
+    if loaded.is_err() {
+        assert!(record.as_numbers() == numbers && [panel, store] == *memories, "load");
+    }
+    let mut out = vec![0x5A; MAX_TABLE];
+    let saved = Record::from_numbers(numbers).save_into(&mut out);
+    assert_eq!(saved.err(), (number == "9").then_some(Refusal::UNSOUND_RECORD), "save");
+    assert!(saved.is_ok() || out == vec![0x5A; MAX_TABLE], "save");
+}
+
 #[test]
 fn the_sample() {
     let bytes = fs::read(format!("{FOLDER}/stdin")).expect("the records");
@@ -130,6 +147,7 @@ fn the_sample() {
                 assert!([panel, store] == memories, "{line}: {call:?} changed a memory");
             }
         }
+        load_and_save(&numbers, &memories, number);
         memory_screens += u32::from(number == "0" && numbers[SCREEN] == MEMORY);
         tried += 1;
     }

@@ -5,8 +5,8 @@
 use pocket_kernel::gdi::{self, GdiState};
 use ravinefork::{
     call, rop3, Area, Bitmap, Brush, Colorref, Dc, DcSurface, Device, Font, GdiObject, Handle,
-    HostCall, Pen, Point, Record, Refusal, Reply, Rgb565, Slot, DC, MAX_MEMORY, RECORD, SCREEN,
-    SLOT, SLOTS,
+    HostCall, Pen, Point, Record, Refusal, Reply, Rgb565, Slot, DC, MAX_MEMORY, MAX_TABLE, RECORD,
+    SCREEN, SLOT, SLOTS,
 };
 
 const SCREEN_DC: Handle = Handle::GDI_SCREEN_DC;
@@ -42,10 +42,11 @@ fn refused(number: u32) -> Reply {
     Reply { refusal: number, value: 0, flag: 0, x: 0, y: 0, kind: 5, fields: [0; DC] }
 }
 
-/// Asserts that every call on these numbers is refused with this number and
-/// changes nothing.
+/// Asserts that every call on these numbers, a load and a save are refused with
+/// this number and change nothing.
 fn all_refused(numbers: &[u32], number: u32, of: &str) {
     let lens = [30, 64].map(|len| (0..len).collect::<Vec<u8>>());
+    tables_refused(numbers, number, &lens, of);
     for call in calls() {
         let mut record = Record::from_numbers(numbers);
         let [mut panel, mut store] = lens.clone();
@@ -53,6 +54,29 @@ fn all_refused(numbers: &[u32], number: u32, of: &str) {
         assert_eq!(reply, refused(number), "{of}: {call:?}");
         assert_eq!(record.as_numbers(), numbers, "{of}: {call:?}");
         assert_eq!([panel, store], lens, "{of}: {call:?}");
+    }
+}
+
+/// Asserts that a load on these numbers and memories, of a table or of other bytes,
+/// is refused with this number and changes nothing; and so is a save if the record
+/// is unsound.
+fn tables_refused(numbers: &[u32], number: u32, lens: &[Vec<u8>; 2], of: &str) {
+    let table = Device::open(1, 1, 2, 2).and_then(|fresh| fresh.save()).expect("a table");
+    for bytes in [table.as_slice(), &table[1..], &[]] {
+        let mut record = Record::from_numbers(numbers);
+        let [mut panel, mut store] = lens.clone();
+        let answer = record.load(bytes, &mut panel, &mut store);
+        assert_eq!(answer.map_err(Refusal::number), Err(number), "{of}: load");
+        assert_eq!(record.as_numbers(), numbers, "{of}: load");
+        assert_eq!([panel, store], *lens, "{of}: load");
+    }
+    if number == 9 {
+        for len in [0, MAX_TABLE] {
+            let mut out = vec![0x5A; len];
+            let answer = Record::from_numbers(numbers).save_into(&mut out);
+            assert_eq!(answer, Err(Refusal::UNSOUND_RECORD), "{of}: save");
+            assert_eq!(out, vec![0x5A; len], "{of}: save");
+        }
     }
 }
 
@@ -196,6 +220,8 @@ fn memories_of_another_length() {
     let (device, _) = device();
     let numbers = device.record().as_numbers();
     for (panel_len, store_len) in [(29, 64), (31, 64), (30, 63), (30, 65), (0, 0), (64, 30)] {
+        let memories = [vec![0x5A; panel_len], vec![0xA5; store_len]];
+        tables_refused(numbers, 8, &memories, "another length");
         for call in calls() {
             let mut record = device.record().clone();
             let (mut panel, mut store) = (vec![0x5A; panel_len], vec![0xA5; store_len]);
@@ -510,8 +536,8 @@ fn refusals_tell_their_meaning() {
     assert_eq!(told(255).as_deref(), Some("refused with 255: no such call"));
     assert_eq!(told(20).as_deref(), Some("refused with 20: no refusal of this library"));
     let meanings: std::collections::BTreeSet<_> =
-        (1..=11).chain([255]).map(|number| Refusal::new(number)?.meaning()).collect();
-    assert!(meanings.len() == 12 && !meanings.contains(&None), "{meanings:?}");
+        (1..=13).chain([255]).map(|number| Refusal::new(number)?.meaning()).collect();
+    assert!(meanings.len() == 14 && !meanings.contains(&None), "{meanings:?}");
 }
 
 #[test]
@@ -523,21 +549,36 @@ fn refusal_0_cannot_be_made() {
     assert_eq!(size_of::<Result<(), Refusal>>(), size_of::<u32>());
 }
 
+/// What this answers in a thread with so many KiB of stack.
+fn with_stack(
+    kib: usize,
+    work: impl FnOnce() -> Result<(), Refusal> + Send,
+) -> Result<(), Refusal> {
+    std::thread::scope(|scope| {
+        let small = std::thread::Builder::new().stack_size(kib * 1024);
+        small.spawn_scoped(scope, work).expect("a thread").join().expect("no fault")
+    })
+}
+
 #[test]
 fn a_call_needs_less_than_32_kib_of_stack() {
     let (mut device, [dc, ..]) = device();
     let calls = calls();
-    let drawn = std::thread::scope(|scope| {
-        let small = std::thread::Builder::new().stack_size(32 * 1024);
-        let calling = small.spawn_scoped(scope, || {
-            for call in &calls {
-                device.perform(call, &[0x41; 9]);
-            }
-            device.blit(SCREEN_DC, AREA, dc, AT, 0x00B8_074A)?;
-            device.blit(dc, AREA, dc, Point { x: 1, y: 1 }, rop3::SRCCOPY)?;
-            device.remove(dc).map(|_| ())
-        });
-        calling.expect("a thread").join().expect("no fault")
+    let drawn = with_stack(32, || {
+        for call in &calls {
+            device.perform(call, &[0x41; 9]);
+        }
+        device.blit(SCREEN_DC, AREA, dc, AT, 0x00B8_074A)?;
+        device.blit(dc, AREA, dc, Point { x: 1, y: 1 }, rop3::SRCCOPY)?;
+        device.save()?;
+        device.remove(dc).map(|_| ())
     });
     assert_eq!(drawn, Ok(()));
+}
+
+#[test]
+fn a_load_needs_less_than_48_kib_of_stack() {
+    let (mut device, _) = device();
+    let table = device.save().expect("a table");
+    assert_eq!(with_stack(48, || device.load(&table)), Ok(()));
 }

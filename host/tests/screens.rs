@@ -5,7 +5,7 @@ mod random;
 
 use random::Random;
 use ravinefork::snapshot::{ppm_len, rgba8888_len};
-use ravinefork::{call, Handle, HostCall, Record, Refusal, Reply, RECORD};
+use ravinefork::{call, Handle, HostCall, Record, Refusal, Reply, MAX_TABLE, RECORD};
 
 /// Rounds, and calls in each.
 const ROUNDS: u32 = 300;
@@ -36,6 +36,17 @@ impl Flat {
 
     fn perform(&mut self, host: &HostCall, units: &[u16]) -> Reply {
         self.record.perform(host, units, &mut self.panel, &mut self.store)
+    }
+
+    fn save(&self) -> Result<Vec<u8>, Refusal> {
+        let mut table = vec![0; MAX_TABLE];
+        let length = self.record.save_into(&mut table)?;
+        table.truncate(length);
+        Ok(table)
+    }
+
+    fn load(&mut self, table: &[u8]) -> Result<(), Refusal> {
+        self.record.load(table, &mut self.panel, &mut self.store)
     }
 
     /// Both snapshots, into outputs that held random bytes.
@@ -90,7 +101,7 @@ fn next_call(random: &mut Random) -> (HostCall, Vec<u16>) {
 fn whatever_the_memories_held() {
     let mut random = Random::new(16);
     let (mut opened, mut accepted, mut pictures, mut created) = (0, 0, 0, 0);
-    let (mut moves, mut lines) = (0, 0);
+    let (mut moves, mut lines, mut loads) = (0, 0, 0);
     for _ in 0..ROUNDS {
         let (width, height) = (random.below(30), 1 + random.below(30));
         let panel_len = (2 * width * height + random.below(40)) as usize;
@@ -100,7 +111,17 @@ fn whatever_the_memories_held() {
         let number = one.open(width, height);
         assert_eq!(number, other.open(width, height));
         opened += u32::from(number.is_ok());
+        let mut tables = vec![Vec::new()];
         for _ in 0..CALLS {
+            if random.below(20) == 0 {
+                let table = one.save();
+                assert_eq!(table, other.save());
+                tables.extend(table);
+                let table = &tables[random.below(tables.len() as u32) as usize];
+                let answer = one.load(table);
+                assert_eq!(answer, other.load(table));
+                loads += u32::from(answer.is_ok());
+            }
             let (host, units) = next_call(&mut random);
             let reply = one.perform(&host, &units);
             assert_eq!(reply, other.perform(&host, &units), "{host:?}");
@@ -118,13 +139,13 @@ fn whatever_the_memories_held() {
         }
         created += one.bitmaps().len() - 1;
     }
-    println!("{opened} opened, {accepted} calls accepted, {pictures} pictures with a colour, {created} bitmaps, {moves} moves, {lines} lines");
+    println!("{opened} opened, {accepted} calls accepted, {pictures} pictures with a colour, {created} bitmaps, {moves} moves, {lines} lines, {loads} loads");
     assert!(opened < ROUNDS && opened > ROUNDS / 2, "{opened}");
     assert!(
         accepted > ROUNDS * CALLS / 3 && pictures > ROUNDS * CALLS / 4 && created > 500,
         "{accepted}, {pictures}, {created}"
     );
-    assert!(moves > 100 && lines > 1000, "{moves}, {lines}");
+    assert!(moves > 100 && lines > 1000 && loads > 300, "{moves}, {lines}, {loads}");
 }
 
 #[test]

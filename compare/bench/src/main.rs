@@ -6,11 +6,9 @@
 mod proved;
 mod timing;
 
-use std::hint::black_box;
-use std::time::Instant;
-
 use pocket_kernel::font;
 use pocket_kernel::gdi::{rop3, Bitmap, Surface};
+use timing::time;
 
 /// About how long each of the two runs in a round, in nanoseconds.
 const SLICE: f64 = 2e6;
@@ -116,15 +114,6 @@ impl Scene {
         }
         self.theirs.host_dirty.into()
     }
-}
-
-/// The time of one drawing in nanoseconds, measured over `count` of them.
-fn time(count: u32, mut part: impl FnMut() -> i32) -> f64 {
-    let start = Instant::now();
-    for _ in 0..count {
-        black_box(part());
-    }
-    start.elapsed().as_nanos() as f64 / f64::from(count)
 }
 
 /// Both medians in nanoseconds.

@@ -1,5 +1,8 @@
 //! What the programs of this benchmark share.
 
+use std::hint::black_box;
+use std::time::Instant;
+
 /// The number of rounds, the program's only argument. Without it there are 101. Ends
 /// the program if it is not a number above 0.
 pub fn rounds(program: &str) -> u32 {
@@ -23,4 +26,14 @@ pub fn targets(over: &[&str]) -> String {
         [] => "all targets met".into(),
         names => format!("over its target: {}", names.join(", ")),
     }
+}
+
+/// The time of one part in nanoseconds, measured over `count` of them.
+#[allow(dead_code)]
+pub fn time<T>(count: u32, mut part: impl FnMut() -> T) -> f64 {
+    let start = Instant::now();
+    for _ in 0..count {
+        black_box(part());
+    }
+    start.elapsed().as_nanos() as f64 / f64::from(count)
 }

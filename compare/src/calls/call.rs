@@ -1,10 +1,12 @@
 //! The calls of docs/call-script.md, as values and as bytes.
 
-use crate::argument::Units;
+use crate::argument::{List, Units};
 use crate::table::table;
 
 /// How many units the longest text of a script has.
 pub const MAX_UNITS: usize = 70_000;
+/// How many bytes a load has at most, and the output of a save.
+pub const MAX_BYTES: usize = 16_384;
 
 table! {
     /// A call with its arguments.
@@ -32,6 +34,8 @@ table! {
         }
         0x13 "move" Move { dc: u32, x: i32, y: i32 }
         0x14 "line" Line { dc: u32, x: i32, y: i32 }
+        0x15 "load" Load { bytes: List<u32, u8> }
+        0x16 "save" Save { room: u32 }
     }
 }
 
@@ -43,6 +47,8 @@ impl Call {
             Call::SetBkMode { transparent, .. } => transparent <= 1,
             Call::Text { ref units, .. } => units.as_slice().len() <= MAX_UNITS,
             Call::PanelFill { word } => word <= u16::MAX.into(),
+            Call::Load { ref bytes } => bytes.as_slice().len() <= MAX_BYTES,
+            Call::Save { room } => room as usize <= MAX_BYTES,
             _ => true,
         };
         good.then_some(call)
@@ -52,6 +58,11 @@ impl Call {
     pub fn text(dc: u32, x: i32, y: i32, units: Vec<u16>) -> Call {
         let units = Units::new(units).expect("their number has 32 bits");
         Call::Text { dc, x, y, units }
+    }
+
+    /// A load of these bytes.
+    pub fn load(bytes: Vec<u8>) -> Call {
+        Call::Load { bytes: List::new(bytes).expect("their number has 32 bits") }
     }
 
     pub fn draws(&self) -> bool {
@@ -88,6 +99,10 @@ mod tests {
         let bytes = [0x14, 0, 0, 0, 1, 0xFF, 0xFF, 0x80, 0, 0, 0, 0, 2];
         assert_eq!(line.bytes(), bytes);
         assert_eq!(Call::read(&mut bytes.as_slice()), Some(line));
+        let load = Call::load(vec![0x10, 0xFF]);
+        let bytes = [0x15, 0, 0, 0, 2, 0x10, 0xFF];
+        assert_eq!(load.bytes(), bytes);
+        assert_eq!(Call::read(&mut bytes.as_slice()), Some(load));
         let text = Call::text(1, -1, 2, vec![0x41, 0xD800]);
         let bytes = [
             [0x0F, 0, 0, 0, 1, 0xFF, 0xFF, 0xFF, 0xFF].as_slice(),
@@ -102,16 +117,22 @@ mod tests {
         let mode = |transparent| Call::SetBkMode { dc: 0, transparent }.bytes();
         let fill = |word| Call::PanelFill { word }.bytes();
         let text = |count| Call::text(0, 0, 0, vec![0; count]).bytes();
-        let bad = [vec![], vec![0x00], vec![0x15], vec![0xFF], mode(2), mode(0x0100_0000)];
+        let load = |count| Call::load(vec![0; count]).bytes();
+        let save = |room| Call::Save { room }.bytes();
+        let bad = [vec![], vec![0x00], vec![0x17], vec![0xFF], mode(2), mode(0x0100_0000)];
         let long = [fill(0x0001_0000), fill(0x8000_0000), text(MAX_UNITS + 1)];
-        for bytes in bad.into_iter().chain(long) {
+        let more = [load(MAX_BYTES + 1), save(MAX_BYTES as u32 + 1), save(u32::MAX)];
+        for bytes in bad.into_iter().chain(long).chain(more) {
             assert_eq!(Call::read(&mut bytes.as_slice()), None, "{bytes:?}");
         }
-        for bytes in [mode(1), fill(0xFFFF), text(0), text(MAX_UNITS)] {
+        let most = [load(0), load(MAX_BYTES), save(0), save(MAX_BYTES as u32)];
+        for bytes in [mode(1), fill(0xFFFF), text(0), text(MAX_UNITS)].into_iter().chain(most) {
             assert!(Call::read(&mut bytes.as_slice()).is_some());
         }
         let text = Call::text(1, 2, 3, vec![4, 5]);
-        for call in [Call::Delete { handle: 1 }, Call::Move { dc: 1, x: 2, y: 3 }, text] {
+        let added =
+            [Call::Move { dc: 1, x: 2, y: 3 }, Call::load(vec![1, 2]), Call::Save { room: 9 }];
+        for call in [Call::Delete { handle: 1 }, text].into_iter().chain(added) {
             let bytes = call.bytes();
             for len in 0..bytes.len() {
                 assert_eq!(Call::read(&mut &bytes[..len]), None);

@@ -21,18 +21,20 @@ pub const MAX_MEMORY: u64 = 33_554_432;
 pub const MAX_OBJECTS: usize = 256;
 
 pub struct Device {
-    original: Original,
+    pub(super) original: Original,
     pub(super) panel: Framebuffer,
     /// The stock bitmap and the created objects in order of creation, which is the
     /// order of their pixels in the store. Empty after a refused open.
-    order: Vec<u32>,
+    pub(super) order: Vec<u32>,
     /// The lent memories. The pixels are in the original; only the other bytes are
     /// valid here.
     pub(super) panel_memory: Vec<u8>,
-    store: Vec<u8>,
+    pub(super) store: Vec<u8>,
     pub(super) positions: Positions,
     /// The form of the script, which decides whether positions are printed.
     form: Form,
+    /// The byte that fills the output of a save before it.
+    pub(super) fill: u8,
     /// Whether the present call has changed a pixel.
     pub(super) changed: bool,
     /// How many bitmaps deletions and removals have moved, and how many of them
@@ -69,6 +71,7 @@ impl Device {
             store,
             positions: Positions::new(),
             form: Form::Gdi1,
+            fill: 0,
             changed: false,
             moved: [0; 2],
         };
@@ -78,6 +81,11 @@ impl Device {
     /// The same device for a script of this form.
     pub fn shown_as(self, form: Form) -> Device {
         Device { form, ..self }
+    }
+
+    /// The same device, with this byte in the output of a save before it.
+    pub fn filled_with(self, fill: u8) -> Device {
+        Device { fill, ..self }
     }
 
     /// The length of the panel memory.
@@ -120,7 +128,7 @@ impl Device {
         self.changed = false;
         let (refusal, answer) = match self.attempt(call) {
             Ok(answer) => (0, answer),
-            Err(Stop::Refused(number)) => (number, Answer::refused(call)),
+            Err(Stop::Refused(number)) => (number, Answer::refused(call, self.fill)),
             Err(Stop::Overflow) => return Err(Overflow),
         };
         Ok(Outcome { refusal, answer, changed: self.changed, panel })
@@ -154,6 +162,11 @@ impl Device {
                 Answer::Flag(replace(&mut self.dc_mut(dc)?.bk_transparent, transparent == 1))
             }
             Call::Move { dc, x, y } => Answer::Position(self.move_to(dc, Point { x, y })?),
+            Call::Load { ref bytes } => {
+                self.load(bytes.as_slice())?;
+                Answer::Nothing
+            }
+            Call::Save { room } => self.save(room as usize)?,
             _ => self.draw(call)?,
         })
     }

@@ -6,7 +6,7 @@
 pub enum Form {
     /// The calls and fields that are compared with the original.
     Gdi1,
-    /// Moves, lines and the positions of DCs too.
+    /// Moves, lines, the positions of DCs, loads and saves too.
     Gdi2,
 }
 

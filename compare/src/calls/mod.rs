@@ -21,13 +21,14 @@ mod sample;
 mod script;
 mod spoilt;
 mod step;
+mod tables;
 mod tally;
 
 pub use device::{bytes_of, MAX_MEMORY, MAX_OBJECTS, MAX_SIDE};
 pub use drawing::drawing;
 pub use handle::STOCK;
 pub use lines::{Point, LEAST, MOST};
-pub use run::{run, run_handles, run_lines, run_pictures};
+pub use run::{run, run_handles, run_lines, run_pictures, run_tables};
 pub use sample::sample;
 pub use script::picture;
 
@@ -43,7 +44,13 @@ pub fn line_script(seed: u64) -> Vec<u8> {
     lines::script(seed, &mut Tally::new())
 }
 
-/// What is printed for the script; an error if a sum of the original overflows.
+/// The random script with saves and loads that a seed makes.
+pub fn table_script(seed: u64) -> Vec<u8> {
+    tables::script(seed, &mut Tally::new())
+}
+
+/// What is printed for the script; an error if a sum of the original overflows, or
+/// if it cannot give the handles of a loaded table.
 pub fn answers(script: &[u8]) -> Result<String, String> {
     Ok(script::answered(script, &mut Tally::new())?.text())
 }

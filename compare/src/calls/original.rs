@@ -1,8 +1,13 @@
 //! The original's objects, and the handles that it gives them.
 
-use pocket_kernel::gdi::{is_stock_handle, GdiState, GDI_HANDLE_BASE};
+use std::collections::HashMap;
+
+use pocket_kernel::gdi::{is_stock_handle, GdiObject, GdiState, GDI_HANDLE_BASE};
 
 use super::call::Call;
+
+/// The most handles that the original is made to give for a loaded table.
+const MOST_GIVEN: u32 = 50_000;
 
 /// The original's table of objects.
 ///
@@ -19,6 +24,31 @@ pub struct Original {
 impl Original {
     pub fn new() -> Self {
         Self { gdi: GdiState::new(), next: GDI_HANDLE_BASE }
+    }
+
+    /// The original with these created objects and this next handle. It gives every
+    /// handle before that one; what is not among the objects is removed again. `None`
+    /// if it would give too many, or never an object's handle.
+    pub fn holding(next: u32, objects: impl IntoIterator<Item = (u32, GdiObject)>) -> Option<Self> {
+        let mut objects: HashMap<u32, GdiObject> = objects.into_iter().collect();
+        let mut original = Self::new();
+        let given = |handle: u32| handle.wrapping_sub(GDI_HANDLE_BASE);
+        if given(next) > MOST_GIVEN || objects.keys().any(|&handle| given(handle) >= given(next)) {
+            return None;
+        }
+        while original.next != next {
+            match objects.remove(&original.next) {
+                Some(object) => original.place(object),
+                None => original.pass(),
+            }
+        }
+        Some(original)
+    }
+
+    /// Makes the original create an object, and puts this one in its place.
+    fn place(&mut self, object: GdiObject) {
+        let handle = self.create_next(&Call::CreateFont { height: 0 });
+        *self.gdi.get_mut(handle).expect("it was created") = object;
     }
 
     /// Makes the original perform a create call.
@@ -64,7 +94,7 @@ impl Original {
 }
 
 /// The first handle from `next` on that is not 0, stock or live.
-fn free(next: u32, live: impl Fn(u32) -> bool) -> u32 {
+pub fn free(next: u32, live: impl Fn(u32) -> bool) -> u32 {
     let mut handle = next;
     while handle == 0 || is_stock_handle(handle) || live(handle) {
         handle = handle.wrapping_add(1);
@@ -75,7 +105,7 @@ fn free(next: u32, live: impl Fn(u32) -> bool) -> u32 {
 #[cfg(test)]
 mod tests {
     use super::*;
-    use pocket_kernel::gdi::GdiObject;
+    use pocket_kernel::gdi::Font;
 
     /// How many handles the original gives before the stock ones.
     const UNTIL_STOCK: u32 = 18_177;
@@ -102,6 +132,23 @@ mod tests {
         let handles: Vec<u32> = (0..24).map(|_| original.create(&brush) - 0xDEAD_5700).collect();
         let expected = (0x0A..=0x22).filter(|low| ![0x10, 0x20].contains(low));
         assert!(handles.iter().copied().eq(expected.chain([0x23])), "{handles:x?}");
+    }
+
+    #[test]
+    fn objects_are_put_where_their_handles_are() {
+        let font = |height| GdiObject::Font(Font { height });
+        let handles = [0xDEAD_1001, 0xDEAD_5700, 0xDEAD_570A];
+        let objects = handles.into_iter().zip([7, 8, 9].map(font));
+        let mut original = Original::holding(0xDEAD_570B, objects.clone()).expect("an original");
+        for (handle, height) in handles.into_iter().zip([7, 8, 9]) {
+            let held = original.gdi.get(handle);
+            assert!(matches!(held, Some(GdiObject::Font(font)) if font.height == height));
+        }
+        assert!(original.gdi.get(0xDEAD_1000).is_none());
+        assert_eq!(original.create(&Call::CreateMemoryDc {}), 0xDEAD_570B);
+        for next in [0xDEAD_570A, 0xDEAD_1000, 0xDEAD_0FFF, 0] {
+            assert!(Original::holding(next, objects.clone()).is_none());
+        }
     }
 
     #[test]

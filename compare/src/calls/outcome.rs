@@ -7,6 +7,7 @@ use pocket_kernel::gdi::GdiObject;
 use super::call::Call;
 use super::line;
 use super::lines::{Line, Point};
+use crate::crc::crc32;
 use crate::overflow::Overflow;
 
 /// The outcome of a call. `Display` prints its line.
@@ -31,6 +32,11 @@ pub enum Answer {
     Advance(i32),
     /// The old position.
     Position(Point),
+    /// The length of a saved table, and the CRC-32 of the whole output.
+    Saved {
+        len: usize,
+        crc: u32,
+    },
     /// No answer is printed; this is the line that was drawn.
     Line(Line),
     /// No answer.
@@ -67,19 +73,24 @@ impl fmt::Display for Outcome {
             Answer::Object(None, _) => f.write_str(" none"),
             Answer::Advance(advance) => write!(f, " {advance}"),
             Answer::Position(position) => write!(f, " {position}"),
+            Answer::Saved { len, crc } => write!(f, " {len} {crc:08x}"),
             Answer::Line(_) | Answer::Nothing => Ok(()),
         }
     }
 }
 
 impl Answer {
-    /// The answer of a refused call.
-    pub fn refused(call: &Call) -> Self {
+    /// The answer of a refused call, with the byte that fills the output of a save.
+    pub fn refused(call: &Call, fill: u8) -> Self {
         match call {
             Call::Delete { .. } | Call::SetBkMode { .. } => Answer::Flag(false),
             Call::Remove { .. } => Answer::Object(None, None),
             Call::Move { .. } => Answer::Position(Point::default()),
             Call::Text { .. } => Answer::Advance(0),
+            Call::Save { room } => {
+                Answer::Saved { len: 0, crc: crc32(&vec![fill; *room as usize]) }
+            }
+            Call::Load { .. } => Answer::Nothing,
             _ if call.draws() => Answer::Nothing,
             _ => Answer::Number(0),
         }

@@ -8,6 +8,7 @@ use super::random;
 use super::sample::sample;
 use super::script::{answered, picture, Answered, Performed};
 use super::step::Step;
+use super::tables;
 use super::tally::Tally;
 use crate::program::{self, hexadecimal, Progress};
 
@@ -19,6 +20,9 @@ const DRAWINGS: [(&str, &str); 2] = [
     ("discharge", include_str!("../../../drawings/discharge.txt")),
 ];
 
+/// A function that makes the random script of a seed.
+type Scripts = fn(u64, &mut Tally) -> Vec<u8>;
+
 /// Compares the scripts at the edges and `count` random ones, each from the next
 /// seed. True if all lines are equal; otherwise it prints the first difference.
 pub fn run(program: &str, count: u64, first: u64) -> Result<bool, String> {
@@ -27,14 +31,8 @@ pub fn run(program: &str, count: u64, first: u64) -> Result<bool, String> {
     if !compare_all(program, &edges, "edge", &mut tally)? {
         return Ok(false);
     }
-    let mut progress = Progress::new(count, "scripts");
-    for done in 0..count {
-        let seed = first.wrapping_add(done);
-        let script = random::script(seed, &mut tally);
-        if !compare(program, &script, &format!("calls-{seed}"), &mut tally)? {
-            return Ok(false);
-        }
-        progress.show(done + 1);
+    if !compare_seeds(program, count, first, ("calls", random::script), &mut tally)? {
+        return Ok(false);
     }
     let (edges, calls) = (edges.len(), tally.calls());
     println!("{edges} scripts at the edges, {count} random ones from seed {first} on");
@@ -70,6 +68,33 @@ pub fn run_lines(program: &str, count: u64, first: u64) -> Result<bool, String> 
     Ok(true)
 }
 
+/// Random scripts of calls with saves and loads between them: one for so many
+/// records.
+const RECORDS_PER_SCRIPT: u64 = 20;
+
+/// Compares the fixed scripts of loads and saves, the scripts of `count` random
+/// records, each from the next seed, and random scripts of calls with saves and
+/// loads. True if all lines are equal; otherwise it prints the first difference.
+pub fn run_tables(program: &str, count: u64, first: u64) -> Result<bool, String> {
+    let mut tally = Tally::new();
+    if !compare_all(program, &tables::edges(), "tables-edge", &mut tally)? {
+        return Ok(false);
+    }
+    let (equal, records) = tables::run_records(program, count, first)?;
+    if !equal {
+        return Ok(false);
+    }
+    let scripts = count.div_ceil(RECORDS_PER_SCRIPT);
+    if !compare_seeds(program, scripts, first, ("mixed", tables::script), &mut tally)? {
+        return Ok(false);
+    }
+    println!("{} records, {count} of them random from seed {first} on", records.records());
+    println!("{} calls compared: all lines equal\n{records}", records.calls());
+    println!("fixed scripts, and {scripts} random ones of calls with saves and loads");
+    println!("{} calls compared: all lines equal\n{tally}", tally.calls());
+    Ok(true)
+}
+
 /// Compares the script whose handles pass the stock ones.
 pub fn run_handles(program: &str) -> Result<bool, String> {
     let mut tally = Tally::new();
@@ -92,7 +117,7 @@ pub fn run_pictures(program: &str, count: u64, first: u64) -> Result<bool, Strin
     let mut progress = Progress::new(fixed.len() as u64 + count, "scripts");
     let random = (0..count).map(|done| {
         let seed = first.wrapping_add(done);
-        let (name, scripts): (_, fn(u64, &mut Tally) -> Vec<u8>) =
+        let (name, scripts): (_, Scripts) =
             if done % 4 == 3 { ("lines", lines::script) } else { ("calls", random::script) };
         (format!("{name}-{seed}"), scripts(seed, &mut Tally::new()))
     });
@@ -129,6 +154,27 @@ fn compare_all(
     Ok(true)
 }
 
+/// Compares `count` random scripts, each from the next seed, up to the first
+/// difference.
+fn compare_seeds(
+    program: &str,
+    count: u64,
+    first: u64,
+    (name, scripts): (&str, Scripts),
+    tally: &mut Tally,
+) -> Result<bool, String> {
+    let mut progress = Progress::new(count, "scripts");
+    for done in 0..count {
+        let seed = first.wrapping_add(done);
+        let script = scripts(seed, tally);
+        if !compare(program, &script, &format!("{name}-{seed}"), tally)? {
+            return Ok(false);
+        }
+        progress.show(done + 1);
+    }
+    Ok(true)
+}
+
 fn compare(program: &str, script: &[u8], name: &str, tally: &mut Tally) -> Result<bool, String> {
     let answered = answered(script, tally)?;
     program::compare(program, script, &answered.lines, |at| shown(&answered, at), name)
@@ -136,7 +182,7 @@ fn compare(program: &str, script: &[u8], name: &str, tally: &mut Tally) -> Resul
 
 /// A description of what a line belongs to. If state lines differ, it lists the
 /// calls since the last equal state.
-fn shown(answered: &Answered, at: usize) -> String {
+pub fn shown(answered: &Answered, at: usize) -> String {
     let steps = &answered.steps;
     let index = steps.iter().position(|done| done.lines.contains(&at));
     match index.map(|index| (&steps[index].step, &steps[..index])) {

@@ -2,6 +2,7 @@
 
 use std::ops::Range;
 
+use super::call::Call;
 use super::device::Device;
 use super::form::Form;
 use super::step::Step;
@@ -65,7 +66,9 @@ impl Header {
 
     pub fn open(&self) -> (u8, Device) {
         let memory = |len: u32| vec![self.fill; len as usize];
-        Device::open(memory(self.panel_len), memory(self.store_len), self.width, self.height)
+        let [panel, store] = [self.panel_len, self.store_len].map(memory);
+        let (refusal, device) = Device::open(panel, store, self.width, self.height);
+        (refusal, device.filled_with(self.fill))
     }
 }
 
@@ -82,8 +85,13 @@ pub struct Performed {
 }
 
 impl Answered {
+    /// No steps yet; a line that is printed first.
+    pub fn begun(line: String) -> Self {
+        Self { lines: vec![line], steps: Vec::new() }
+    }
+
     /// Adds a step with its lines.
-    fn add(&mut self, step: Step, lines: Vec<String>) {
+    pub fn add(&mut self, step: Step, lines: Vec<String>) {
         let first = self.lines.len();
         self.lines.extend(lines);
         self.steps.push(Performed { step, lines: first..self.lines.len() });
@@ -109,7 +117,7 @@ impl Session {
     fn begun(form: Form, line: String, device: Option<Device>, tally: &mut Tally) -> Self {
         tally.begin(&line);
         let opened = line == "open 0";
-        Self { form, answered: Answered { lines: vec![line], steps: Vec::new() }, device, opened }
+        Self { form, answered: Answered::begun(line), device, opened }
     }
 
     /// Reads a script and performs it with the original; an error if a sum of the
@@ -142,6 +150,9 @@ impl Session {
                 return Ok(());
             };
             let lines = match &step {
+                Step::Call(Call::Load { bytes }) if !device.can_load(bytes.as_slice()) => {
+                    return Err("the original cannot give the handles of a table".into());
+                }
                 Step::Call(call) => {
                     let outcome = device.perform(call).map_err(|Overflow| {
                         format!("the original's sums overflow, no answer: {call}")
@@ -183,7 +194,6 @@ pub fn picture(script: &[u8]) -> Result<Vec<u8>, String> {
 #[cfg(test)]
 mod tests {
     use super::*;
-    use crate::calls::call::Call;
     use crate::calls::printed;
     use crate::calls::step::LOOK;
     use pocket_kernel::gdi::GDI_SCREEN_DC;

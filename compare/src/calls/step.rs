@@ -68,8 +68,10 @@ mod tests {
     }
 
     #[test]
-    fn only_the_second_form_has_moves_and_lines() {
-        for call in [Call::Move { dc: 1, x: 2, y: 3 }, Call::Line { dc: 1, x: 2, y: 3 }] {
+    fn only_the_second_form_has_what_the_original_has_not() {
+        let drawn = [Call::Move { dc: 1, x: 2, y: 3 }, Call::Line { dc: 1, x: 2, y: 3 }];
+        let tables = [Call::load(vec![0x10; 54]), Call::Save { room: 54 }];
+        for call in drawn.into_iter().chain(tables) {
             let bytes = call.bytes();
             assert_eq!(Step::read(Form::Gdi1, &mut bytes.as_slice()), None);
             assert_eq!(Step::read(Form::Gdi2, &mut bytes.as_slice()), Some(call.into()));
@@ -78,7 +80,7 @@ mod tests {
 
     #[test]
     fn these_bytes_begin_a_step() {
-        for (form, last) in [(Form::Gdi1, 0x12), (Form::Gdi2, 0x14)] {
+        for (form, last) in [(Form::Gdi1, 0x12), (Form::Gdi2, 0x16)] {
             let bytes: Vec<u8> = (0..=u8::MAX).filter(|byte| begins_step(form, *byte)).collect();
             assert_eq!(bytes, [(0x01..=last).collect(), vec![LOOK]].concat());
         }

@@ -26,6 +26,8 @@ pub struct Tally {
     too_long: u64,
     /// Moves and lines refused with 11.
     out_of_range: u64,
+    /// Loads refused with 12, and saves refused with 13.
+    tables: Counts<2>,
     deleted: Counts<3>,
     removed: Counts<6>,
     selected: Counts<4>,
@@ -51,6 +53,7 @@ impl Tally {
             refused: Counts::new(["1", "2", "3", "4", "5", "6", "7"]),
             too_long: 0,
             out_of_range: 0,
+            tables: Counts::new(["12", "13"]),
             deleted: Counts::new(["created", "stock", "absent"]),
             removed: Counts::new(["none", "DC", "bitmap", "brush", "pen", "font"]),
             selected: Counts::new(["nothing", "stock", "live", "gone"]),
@@ -99,6 +102,7 @@ impl Tally {
             0 => self.count_accepted(call, outcome, device),
             10 => self.too_long += 1,
             11 => self.out_of_range += 1,
+            number @ (12 | 13) => self.tables.add(&number.to_string()),
             number => self.refused.add(&number.to_string()),
         }
     }
@@ -158,9 +162,20 @@ impl Tally {
     /// The same for lines and moves.
     #[cfg(test)]
     pub fn least_of_lines(&self) -> u64 {
-        let added = KINDS.iter().zip(self.kinds).filter(|(kind, _)| !Form::Gdi1.has(kind.0));
-        let accepted = added.map(|(_, [_, accepted, _])| accepted).min().unwrap_or_default();
+        let accepted = self.least_accepted([0x13, 0x14]);
         accepted.min(self.lines.least()).min(self.out_of_range).min(self.looks)
+    }
+
+    /// The same for loads and saves.
+    #[cfg(test)]
+    pub fn least_of_tables(&self) -> u64 {
+        self.least_accepted([0x15, 0x16]).min(self.tables.least()).min(self.looks)
+    }
+
+    #[cfg(test)]
+    fn least_accepted(&self, bytes: [u8; 2]) -> u64 {
+        let kinds = KINDS.iter().zip(self.kinds).filter(|(kind, _)| bytes.contains(&kind.0));
+        kinds.map(|(_, [_, accepted, _])| accepted).min().unwrap_or_default()
     }
 
     /// The counts of lines and moves.
@@ -209,9 +224,10 @@ fn standing(previous: u32, device: &Device) -> &'static str {
 impl fmt::Display for Tally {
     fn fmt(&self, f: &mut fmt::Formatter<'_>) -> fmt::Result {
         writeln!(f, "{:30}{:>10}{:>10}{:>10}", "", "calls", "accepted", "changed")?;
-        // Moves and lines are listed only if there are some.
-        let listed = |byte: u8| Form::Gdi1.has(byte) || self.lines.lines() > 0;
-        let kinds = KINDS.iter().zip(&self.kinds).filter(|(kind, _)| listed(kind.0));
+        // Calls that the original does not have are listed only if there are some.
+        let listed =
+            |(kind, counts): &(&(u8, &str), &[u64; 3])| Form::Gdi1.has(kind.0) || counts[0] > 0;
+        let kinds = KINDS.iter().zip(&self.kinds).filter(listed);
         for ((byte, name), [calls, accepted, changed]) in kinds {
             let changed = if is_drawing(*byte) { changed.to_string() } else { String::new() };
             let line = format!("  {byte:02x} {name:25}{calls:>10}{accepted:>10}{changed:>10}");
@@ -222,9 +238,14 @@ impl fmt::Display for Tally {
         writeln!(f, "scripts: {}; ended by a bad call: {}", self.begun, self.bad_calls)?;
         write!(f, "refused: {}, 10 {}", self.refused, self.too_long)?;
         if self.lines.lines() > 0 {
-            writeln!(f, ", 11 {}\n{}", self.out_of_range, self.lines)?;
-        } else {
-            writeln!(f)?;
+            write!(f, ", 11 {}", self.out_of_range)?;
+        }
+        if self.tables.sum() > 0 {
+            write!(f, ", {}", self.tables)?;
+        }
+        writeln!(f)?;
+        if self.lines.lines() > 0 {
+            writeln!(f, "{}", self.lines)?;
         }
         writeln!(f, "deleted: {}", self.deleted)?;
         writeln!(f, "removed: {}", self.removed)?;

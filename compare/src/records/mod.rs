@@ -8,6 +8,7 @@ mod stream;
 mod tally;
 mod wrong;
 
+pub use random::handles;
 pub use run::{records, run};
 
 /// What is printed for the stream.

@@ -6,7 +6,7 @@ use Prim.Native.Nat.{ℕ, zero, suc, _+_, _-_, _*_, _/_, _%_, _≤_, _<_, _^_}
 use native.Mathlib.Decide.{decLt}
 use native.Mathlib.Omega.{arith}
 use lib.Dec.{eqb}
-use lib.IntN.{ℤ, pos, negsuc, _-ℤ_}
+use lib.IntN.{pos, negsuc, _-ℤ_}
 use lib.ListN.{length, drop}
 use lib.Seq.{ext-getD, getD-drop}
 use borrow.Author.Tests.{eqb-true, leb-true, ne-eqb}
@@ -22,9 +22,9 @@ use Rattle.gdi.specs.declared.GdiState.{GdiState}
 use Rattle.gdi.specs.declared.Slot.{Slot}
 use Rattle.gdi.specs.Lookup.{slotAt}
 use Rattle.numbers.specs.Layout.{dcSize, objectSize, slotSize, headSize, panelLenPlace, storeLenPlace, widthPlace, heightPlace, framesLowPlace, framesHighPlace, nextHandlePlace, stockDirtyPlace, countPlace, screenPlace, slotsPlace, slotPlace, kindPlace, objectPlace, surfaceIn, presentIn, bitmapIn, bkTransparentIn, posXIn, posYIn, bitmapWidthIn, bitmapHeightIn, bitmapDirtyIn, fontHeightIn, bitmapSize, brushSize, penSize, fontSize}
-use Rattle.numbers.specs.Block.{at, flagOf, isFlag, flagNumber, surfaceOf, bitmapOf, dcFields, isDc, objectOf, zerosFrom, isObject, ObjectCoded, slotOf, isSlot}
+use Rattle.numbers.specs.Block.{presentNumber, bitmapNumber, complement32, kindNumber, at, flagOf, isFlag, flagNumber, surfaceOf, bitmapOf, dcFields, isDc, objectOf, zerosFrom, isObject, ObjectCoded, slotOf, isSlot}
 use Rattle.numbers.specs.View.{view, isRecord, Updated}
-use Rattle.numbers.proofs.Block.{surfaceNumber, presentNumber, bitmapNumber, no-kind, dcNumbers}
+use Rattle.numbers.proofs.Block.{surfaceNumber, no-kind, dcNumbers}
 use Rattle.numbers.proofs.Record.{parts}
 use Rattle.numbers.proofs.Seen.{part-at, count-seen}
 use Rattle.numbers.proofs.View.{deviceNumbers, slot-seen}
@@ -53,15 +53,11 @@ bitmap-number zero h t = eqb-true h 0 t
 bitmap-number (suc zero) h t = refl
 bitmap-number (suc (suc n)) h t = absurd (no-presence n h t)
 
--- the two's complement of an integer of 32 bits
-abbrev complement : ℤ → ℕ
-complement (pos n) = n
-complement (negsuc n) = 4294967296 - suc n
-
-complement-back : (n : ℕ) → n < 2 ^ 32 → n ≡ complement (signed32 n)
+-- so is a two's complement
+pub complement-back : (n : ℕ) → n < 2 ^ 32 → n ≡ complement32 (signed32 n)
 complement-back n h = by (decLt n (2 ^ 31))
   where
-    by : Dec (n < 2 ^ 31) → n ≡ complement (signed32 n)
+    by : Dec (n < 2 ^ 31) → n ≡ complement32 (signed32 n)
     by (yes k) = rw (below-half (2 ^ 31) k) refl
     by (no k) =
         let e = from-half (2 ^ 31) {n = n} (omega arith) ∙ eq-parts (pos n -ℤ pos (2 * 2 ^ 31)) (negsuc (2 * 2 ^ 31 - suc n)) (omega (arith, difference (pos n) (pos (2 * 2 ^ 31)))) in
@@ -93,12 +89,12 @@ zeros-behind l k t i lt = by (decLt i k)
         ap (at l) e ∙ eqb-true (at l (k + (i - k))) 0 (each (objectSize - k) (λ j. eqb (at l (k + j)) 0) t (i - k) (omega arith)) ∙ sym (listed-behind l 0 k i (omega arith))
 
 -- an object's numbers are of 32 bits
-abbrev Small : List ℕ → Type 0
+abbrev pub Small : List ℕ → Type 0
 Small l = (k : ℕ) → k < objectSize → at l k < 2 ^ 32
 
 -- a DC's numbers, from the DC
-abbrev numbersOf : Dc → List ℕ
-numbersOf d = dcNumbers d (complement (d .«pos_x»)) (complement (d .«pos_y»))
+abbrev pub numbersOf : Dc → List ℕ
+numbersOf d = dcNumbers d (complement32 (d .«pos_x»)) (complement32 (d .«pos_y»))
 
 dc-listed : (l : List ℕ) → Small l → isDc l ≡ true → listed l 0 dcSize ≡ numbersOf (dcFields l)
 unfolding isDc dcFields
@@ -115,28 +111,21 @@ dc-listed l small t =
       ← complement-back (at l posYIn) (small posYIn (omega arith)),
     )
 
-dc-back : (l : List ℕ) → Small l → isDc l ≡ true → (i : ℕ) → i < dcSize → at l i ≡ at (numbersOf (dcFields l)) i
+pub dc-back : (l : List ℕ) → Small l → isDc l ≡ true → (i : ℕ) → i < dcSize → at l i ≡ at (numbersOf (dcFields l)) i
 dc-back l small t i lt = zeros-behind l dcSize refl i lt ∙ ap (λ (d : List ℕ). at d i) (dc-listed l small t)
 
--- an object's kind and numbers, from the object; the numbers past these are 0
-abbrev kindNumber : GdiObject → ℕ
-kindNumber (DcOf d) = 0
-kindNumber (Bitmap x) = 1
-kindNumber (Brush x) = 2
-kindNumber (Pen x) = 3
-kindNumber (Font x) = 4
-
-abbrev objectNumbers : GdiObject → List ℕ
+-- an object's numbers, from the object; the numbers past these are 0
+abbrev pub objectNumbers : GdiObject → List ℕ
 objectNumbers (DcOf d) = numbersOf d
 objectNumbers (Bitmap x) = x .width ∷ x .height ∷ flagNumber (x .«host_dirty») ∷ []
 objectNumbers (Brush x) = x .color .0 ∷ []
 objectNumbers (Pen x) = x .color .0 ∷ x .width ∷ []
-objectNumbers (Font x) = complement (x .height) ∷ []
+objectNumbers (Font x) = complement32 (x .height) ∷ []
 
-unknown-kind : (k : ℕ) (l : List ℕ) → isObject (suc (suc (suc (suc (suc k))))) l ≡ true → ⊥
+pub unknown-kind : (k : ℕ) (l : List ℕ) → isObject (suc (suc (suc (suc (suc k))))) l ≡ true → ⊥
 unknown-kind k l t = true≢false (sym t ∙ sym (no-kind (suc (suc (suc (suc (suc k))))) l (λ e. omega arith) (λ e. omega arith) (λ e. omega arith) (λ e. omega arith) (λ e. omega arith)))
 
-kind-back : (k : ℕ) (l : List ℕ) → isObject k l ≡ true → k ≡ kindNumber (objectOf k l)
+pub kind-back : (k : ℕ) (l : List ℕ) → isObject k l ≡ true → k ≡ kindNumber (objectOf k l)
 unfolding isObject objectOf
 kind-back zero l t = refl
 kind-back (suc zero) l t = refl
@@ -145,7 +134,7 @@ kind-back (suc (suc (suc zero))) l t = refl
 kind-back (suc (suc (suc (suc zero)))) l t = refl
 kind-back (suc (suc (suc (suc (suc k))))) l t = absurd (unknown-kind k l t)
 
-object-back : (k : ℕ) (l : List ℕ) → Small l → isObject k l ≡ true → (i : ℕ) → i < objectSize → at l i ≡ at (objectNumbers (objectOf k l)) i
+pub object-back : (k : ℕ) (l : List ℕ) → Small l → isObject k l ≡ true → (i : ℕ) → i < objectSize → at l i ≡ at (objectNumbers (objectOf k l)) i
 unfolding isObject objectOf
 object-back zero l b t i lt = dc-back l b t i lt
 object-back (suc zero) l b t i lt =

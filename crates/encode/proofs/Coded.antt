@@ -26,8 +26,8 @@ use Rattle.gdi.specs.declared.Font.{Font as FontRecord}
 use Rattle.gdi.specs.declared.GdiObject.{GdiObject}
 use Rattle.gdi.specs.declared.GdiObject.the-variants.{Bitmap as BitmapOf, Brush, Pen, Font}
 use Rattle.numbers.specs.Layout.{objectSize, slotSize, handlePlace, kindPlace, objectPlace}
-use Rattle.numbers.specs.Block.{at, flagOf, isFlag, flagNumber, surfaceOf, bitmapOf, dcFields, isDc, objectOf, isObject, ObjectCoded}
-use Rattle.numbers.proofs.Block.{surfaceNumber, presentNumber, bitmapNumber, DcCoded, SlotCoded, flag-back, flag-flag, dcNumbers, lentBack, lent-back}
+use Rattle.numbers.specs.Block.{presentNumber, bitmapNumber, at, flagOf, isFlag, flagNumber, surfaceOf, bitmapOf, dcFields, isDc, objectOf, isObject, ObjectCoded}
+use Rattle.numbers.proofs.Block.{surfaceNumber, DcCoded, SlotCoded, flag-back, flag-flag, dcNumbers, lentBack, lent-back}
 
 -- what was written as numbers is read back
 surface-back : (s : DcSurface) → surfaceOf (surfaceNumber s) ≡ s

@@ -4,3 +4,4 @@ pub mod Lists
 pub mod Snapshots
 pub mod Fresh
 pub mod Screens
+pub mod Restart

@@ -17,7 +17,7 @@ use Rattle.execution.proofs.Steps.{run-append, run-kept}
 use Rattle.noninterference.specs.Claim.{Agree, taintAfter, taintOn}
 use Rattle.noninterference.proofs.Noninterference.{noninterference}
 use Rattle.noninterference.proofs.After.{taint-append}
-use Rattle.end_to_end.specs.Lists.{FlatDevice, deviceOf, refusesAllOn, isPixelOn, colourOn, EqualBut, Entry, throughPerform, throughHost, Made, none, call, callsOf, ListsAgree}
+use Rattle.end_to_end.specs.Lists.{FlatDevice, deviceOf, refusesAllOn, isPixelOn, colourOn, EqualBut, Entry, throughPerform, throughHost, Made, none, then, callsOf, ListsAgree}
 use Rattle.end_to_end.proofs.Entries.{SameRecord, no-record, record-of, no-record-refuses, served-record, Lawful, perform-lawful, host-lawful}
 
 -- Memories of equal lengths; neither list of numbers is a record, or both are and the devices agree except at tainted pixels.
@@ -75,7 +75,7 @@ module _ (e : Entry) (law : Lawful e) where
   -- where every call is refused, nothing changes
   pub made-refused : {cs : List (e .Argument)} {s t : FlatDevice} {rs : List (e .Answer)} → (refusesAllOn s ≡ 0 → ⊥) → Made e cs s rs t → t ≡ s
   made-refused ne none = refl
-  made-refused ne (call {c = c} {s = s} {t = t} {a = a} x xs) =
+  made-refused ne (then {c = c} {s = s} {t = t} {a = a} x xs) =
       let q = law .refuses c s t a ne x in
       made-refused (λ z. ne (ap refusesAllOn (sym q) ∙ z)) xs ∙ q
 
@@ -84,11 +84,11 @@ module _ (e : Entry) (law : Lawful e) where
   stays {c} {s} {t} {a} f x = law .refuses c s t a (no-record-refuses s f) x
 
   -- numbers that are a record stay one, and the calls are made on the device
-  made-makes : {cs : List (e .Argument)} {s t : FlatDevice} {rs : List (e .Answer)} → isRecord (s .numbers) ≡ true → Made e cs s rs t
+  pub made-makes : {cs : List (e .Argument)} {s t : FlatDevice} {rs : List (e .Answer)} → isRecord (s .numbers) ≡ true → Made e cs s rs t
       → (isRecord (t .numbers) ≡ true) × (deviceOf t ≡ run (callsOf e cs) (deviceOf s) .1)
   unfolding run callsOf
   made-makes f none = (f, refl)
-  made-makes f (call {c = c} {cs = cs} {s = s} {t = t} {a = a} x xs) =
+  made-makes f (then {c = c} {cs = cs} {s = s} {t = t} {a = a} x xs) =
       let (g, q) = made-makes (law .stays-record c s t a f x) xs in
       (g, q ∙ ap (λ (d : Device). run (callsOf e cs) d .1) (law .makes c s t a f x) ∙ sym (run-append (e .calls c) (callsOf e cs) (deviceOf s)))
 
@@ -129,7 +129,7 @@ module _ (e : Entry) (law : Lawful e) where
       → (rs ≡ qs) × Linked (taintOn (callsOf e cs) (deviceOf s) m) s′ t′
   unfolding callsOf taintAfter
   made-linked l none none = (refl, l)
-  made-linked {m = m} l (call {c = c} {s = s} {t = s′} {a = a} x xs) (call {s = t} {t = t′} {a = b} y ys) =
+  made-linked {m = m} l (then {c = c} {s = s} {t = s′} {a = a} x xs) (then {s = t} {t = t′} {a = b} y ys) =
       let (q, k) = made-linked (step-linked l x y) xs ys in
       (ap₂ _∷_ (law .answers c s t s′ t′ a b (same-record l) x y) q, taint-then m x xs k)
 
@@ -137,7 +137,7 @@ module _ (e : Entry) (law : Lawful e) where
   made-numbers : {m : Taint} {cs : List (e .Argument)} {s t s′ t′ : FlatDevice} {rs qs : List (e .Answer)} → Linked m s t → s .numbers ≡ t .numbers
       → Made e cs s rs s′ → Made e cs t qs t′ → s′ .numbers ≡ t′ .numbers
   made-numbers l n none none = n
-  made-numbers l n (call {c = c} {s = s} {t = s′} {a = a} x xs) (call {s = t} {t = t′} {a = b} y ys) =
+  made-numbers l n (then {c = c} {s = s} {t = s′} {a = a} x xs) (then {s = t} {t = t′} {a = b} y ys) =
       made-numbers (step-linked l x y) (law .numbers c s t s′ t′ a b (same-record l) n x y) xs ys
 
   -- a ready device is ready after every list

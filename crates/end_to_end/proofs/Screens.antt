@@ -9,7 +9,7 @@ use Rattle.ready.specs.Ready.{commonRefusal}
 use Rattle.place.specs.declared.SurfaceId.the-variants.{Panel}
 use Rattle.paint.specs.Taint.{Taint}
 use Rattle.noninterference.proofs.After.{Untainted, none-after}
-use Rattle.end_to_end.specs.Lists.{FlatDevice, refusesAllOn, Entry, throughPerform, throughHost, Made, none, call, callsOf}
+use Rattle.end_to_end.specs.Lists.{FlatDevice, refusesAllOn, Entry, throughPerform, throughHost, Made, none, then, callsOf}
 use Rattle.end_to_end.specs.Screens.{SameScreen, Session, EqualLengths, Between, SameSession, ScreensAgree}
 use Rattle.end_to_end.proofs.Entries.{served-record, Lawful, perform-lawful, host-lawful}
 use Rattle.end_to_end.proofs.Lists.{Linked, linked-same, linked-pixels, linked-of, made-linked, made-ready, made-refused}
@@ -33,9 +33,9 @@ same-screen {s = s} l clear settled =
 -- a point of a list
 split : (e : Entry) (cs ds : List (e .Argument)) {s t : FlatDevice} {rs : List (e .Answer)} → Made e (cs ++ ds) s rs t → Between e cs ds s rs t
 split e [] ds {s} {t} {rs} xs = record { point = s; first = []; rest = rs; answers = refl; before = none; after = xs }
-split e (c ∷ cs) ds (call {a = a} x xs) =
+split e (c ∷ cs) ds (then {a = a} x xs) =
     let b = split e cs ds xs in
-    record { point = b .point; first = a ∷ b .first; rest = b .rest; answers = ap (λ (l : List (e .Answer)). a ∷ l) (b .answers); before = call x (b .before); after = b .after }
+    record { point = b .point; first = a ∷ b .first; rest = b .rest; answers = ap (λ (l : List (e .Answer)). a ∷ l) (b .answers); before = then x (b .before); after = b .after }
 
 module _ (e : Entry) (law : Lawful e) where
   made-settled : {cs : List (e .Argument)} {s t : FlatDevice} {rs : List (e .Answer)} → Settled s → Made e cs s rs t → Settled t

@@ -43,7 +43,7 @@ use Rattle.plan.specs.Plan.{refuse}
 use Rattle.plan.specs.Stroke.{paintsOf}
 use Rattle.plan.specs.Create.{createOf, createBitmap}
 use Rattle.plan.specs.Drawing.{blit}
-use Rattle.plan.specs.Calls.{act, plan}
+use Rattle.plan.specs.Calls.{act, call, plan}
 use Rattle.noninterference.specs.Claim.{taintAfter}
 use Rattle.noninterference.specs.Taint.{taintBy}
 use Rattle.p6.specs.P6.{header, digits}
@@ -138,7 +138,7 @@ abbrev moving : Call
 moving = Blit 0xDEAD_0DC0 (record { x = pos 1; y = pos 0; w = pos 2; h = pos 1 }) 0xDEAD_0DC0 (record { x = pos 0; y = pos 0 }) 0x00CC_0020
 
 pub row-moved-onto-itself : (a b c : ℕ) (store : List ℕ) → a < 65536 → b < 65536
-    → after row (plan moving [] row 6 2 .paint) (memories (rowOf a b c) store) ≡ memories (rowOf a a b) store
+    → after row (plan (call moving []) row 6 2 .paint) (memories (rowOf a b c) store) ≡ memories (rowOf a a b) store
 unfolding plan commonRefusal isSound sumBelow act blit targetOf dcOf paintsOf after paintedBy painted written word
 row-moved-onto-itself a b c store h g =
     let this : a % 256 + 256 * (a / 256) ≡ a = omega arith in

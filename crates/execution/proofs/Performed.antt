@@ -9,13 +9,13 @@ use Rattle.numbers.specs.View.{view, isRecord}
 use Rattle.paint.specs.Memories.{Memories}
 use Rattle.plan.specs.Answer.{Parts}
 use Rattle.plan.specs.Plan.{Plan}
-use Rattle.plan.specs.Calls.{planOn}
+use Rattle.plan.specs.Calls.{Invocation, planOn}
 use Rattle.plan.specs.Followed.{Performed}
 use Rattle.plan.proofs.Refusal.{refusals-keep}
-use Rattle.execution.specs.Execution.{device, Invocation, planFor, answer, step}
+use Rattle.execution.specs.Execution.{device, planFor, answer, step}
 
-module _ (c : Invocation) (l : List ℕ) (ms : Memories) (good : isRecord l ≡ true) {a : Parts} {l′ : List ℕ} {ms′ : Memories} (p : Performed (c .call) (c .units) l ms a l′ ms′) where
-  plan-is : planOn (c .call) (c .units) l (length (ms .panel)) (length (ms .store)) ≡ planFor c (device (view l) ms)
+module _ (c : Invocation) (l : List ℕ) (ms : Memories) (good : isRecord l ≡ true) {a : Parts} {l′ : List ℕ} {ms′ : Memories} (p : Performed c l ms a l′ ms′) where
+  plan-is : planOn c l (length (ms .panel)) (length (ms .store)) ≡ planFor c (device (view l) ms)
   unfolding planOn
   plan-is = rw good
 
@@ -27,7 +27,7 @@ module _ (c : Invocation) (l : List ℕ) (ms : Memories) (good : isRecord l ≡ 
   state-is (no ne) =
       ap view (p .kept ne .0)
       ∙ sym (ap (λ (q : Plan). q .outcome .state)
-      (refusals-keep (c .call) (c .units) (view l) (length (ms .panel)) (length (ms .store)) (λ z. ne (ap (λ (x : Parts). x .number) answer-is ∙ z))))
+      (refusals-keep c (view l) (length (ms .panel)) (length (ms .store)) (λ z. ne (ap (λ (x : Parts). x .number) answer-is ∙ z))))
 
   -- the answer, the record and the memories afterwards are those of the step
   pub performed-step : (a ≡ answer c (device (view l) ms) .answer) × (device (view l′) ms′ ≡ step c (device (view l) ms))

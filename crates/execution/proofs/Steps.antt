@@ -10,14 +10,10 @@ use Rattle.ready.proofs.Ready.{ready, ready-accepts}
 use Rattle.paint.specs.Paint.{after}
 use Rattle.paint.proofs.Alike.{ReadyWith}
 use Rattle.plan.specs.Plan.{Plan, refuse}
-use Rattle.plan.specs.Calls.{act, plan}
-use Rattle.execution.specs.Execution.{Device, device, refusesAll, Invocation, step, run}
-use Rattle.execution.proofs.Shape.{act-shape}
+use Rattle.plan.specs.Calls.{Invocation, whenReady}
+use Rattle.execution.specs.Execution.{Device, device, refusesAll, step, run}
+use Rattle.execution.proofs.Shape.{Shape, Form, checked, question, form-of}
 use Rattle.execution.proofs.Steady.{shape-steady}
-
--- the plan of a call on a device that is ready, or refuses every call
-abbrev chosen : Invocation → Device → Bool → Plan
-chosen c s t = cond t (act (c .call) (c .units) (s .state)) (refuse (refusesAll s) (s .state))
 
 -- the memories' lengths are kept, and a ready device stays ready
 pub record Kept (s t : Device) : Type 0 where
@@ -25,20 +21,30 @@ pub record Kept (s t : Device) : Type 0 where
   pub store : length (t .memories .store) ≡ length (s .memories .store)
   pub looked : refusesAll s ≡ 0 → refusesAll t ≡ 0
 
-pub step-kept : (c : Invocation) (s : Device) → Kept s (step c s)
-unfolding plan
-step-kept c s = by (eqb (refusesAll s) 0) refl
+-- the device after a plan
+abbrev pub afterPlan : Plan → Device → Device
+afterPlan p s = device (p .outcome .state) (after (s .state) (p .paint) (s .memories))
+
+ready-kept : (p : Plan) (s : Device) → Shape (s .state) p → Kept s (afterPlan (whenReady (s .state) (length (s .memories .panel)) (length (s .memories .store)) p) s)
+ready-kept p s shape = by (eqb (refusesAll s) 0) refl
   where
-    by : (t : Bool) → eqb (refusesAll s) 0 ≡ t → Kept s (device (chosen c s t .outcome .state) (after (s .state) (chosen c s t .paint) (s .memories)))
+    by : (t : Bool) → eqb (refusesAll s) 0 ≡ t → Kept s (afterPlan (cond t p (refuse (refusesAll s) (s .state))) s)
     by true e =
         let l : ReadyWith (s .state) (s .memories) = ready (s .state) _ _ _ refl (eqb-true _ _ e) in
-        let k = shape-steady (act-shape (s .state) (c .call) (c .units)) in
+        let k = shape-steady shape in
         record {
           panel = k .panel (s .memories) l;
           store = k .store (s .memories) l;
           looked = λ z. rw (k .panel (s .memories) l, k .store (s .memories) l) (ready-accepts (k .stays-ready l));
         }
     by false e = unfold after in record { panel = refl; store = refl; looked = λ z. z }
+
+pub step-kept : (c : Invocation) (s : Device) → Kept s (step c s)
+step-kept c s = by (form-of (s .state) c _ _)
+  where
+    by : {p : Plan} → Form (s .state) (length (s .memories .panel)) (length (s .memories .store)) p → Kept s (afterPlan p s)
+    by (checked p shape) = ready-kept p s shape
+    by (question a) = unfold after in record { panel = refl; store = refl; looked = λ z. z }
 
 pub run-kept : (cs : List Invocation) (s : Device) → Kept s (run cs s .1)
 unfolding run
@@ -49,13 +55,19 @@ run-kept (c ∷ cs) s =
     record { panel = k .panel ∙ j .panel; store = k .store ∙ j .store; looked = λ z. k .looked (j .looked z) }
 
 -- a device that refuses every call stays as it is
-step-refused : (c : Invocation) (s : Device) → (refusesAll s ≡ 0 → ⊥) → step c s ≡ s
-unfolding plan
-step-refused c s ne = by (eqb (refusesAll s) 0) refl
+ready-refused : (p : Plan) (s : Device) → (refusesAll s ≡ 0 → ⊥) → afterPlan (whenReady (s .state) (length (s .memories .panel)) (length (s .memories .store)) p) s ≡ s
+ready-refused p s ne = by (eqb (refusesAll s) 0) refl
   where
-    by : (t : Bool) → eqb (refusesAll s) 0 ≡ t → device (chosen c s t .outcome .state) (after (s .state) (chosen c s t .paint) (s .memories)) ≡ s
+    by : (t : Bool) → eqb (refusesAll s) 0 ≡ t → afterPlan (cond t p (refuse (refusesAll s) (s .state))) s ≡ s
     by true e = absurd (ne (eqb-true _ _ e))
     by false e = unfold after in refl
+
+step-refused : (c : Invocation) (s : Device) → (refusesAll s ≡ 0 → ⊥) → step c s ≡ s
+step-refused c s ne = by (form-of (s .state) c _ _)
+  where
+    by : {p : Plan} → Form (s .state) (length (s .memories .panel)) (length (s .memories .store)) p → afterPlan p s ≡ s
+    by (checked p shape) = ready-refused p s ne
+    by (question a) = unfold after in refl
 
 pub run-refused : (cs : List Invocation) (s : Device) → (refusesAll s ≡ 0 → ⊥) → run cs s .1 ≡ s
 unfolding run

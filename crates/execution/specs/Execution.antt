@@ -1,4 +1,4 @@
--- A device, one call on it, and a list of calls.
+-- A device, what is asked of it, and a list of these.
 use mathlib.Core.Bool.{Bool, _&&_}
 use mathlib.Core.List.{List, [], _∷_}
 use Prim.Native.Nat.{ℕ}
@@ -10,9 +10,8 @@ use Rattle.place.specs.declared.SurfaceId.{SurfaceId}
 use Rattle.place.specs.Place.{whereIs}
 use Rattle.paint.specs.Memories.{Memories, hasPixel}
 use Rattle.paint.specs.Paint.{after}
-use Rattle.plan.specs.declared.Call.{Call}
 use Rattle.plan.specs.Plan.{Outcome, Plan}
-use Rattle.plan.specs.Calls.{planOf}
+use Rattle.plan.specs.Calls.{Invocation, plan}
 
 -- A device (document 01: bench): its record, and the two memories lent with it.
 pub record Device : Type 0 where
@@ -30,13 +29,8 @@ refusesAll s = commonRefusal (s .state) (length (s .memories .panel)) (length (s
 abbrev pub isPixel : Device → SurfaceId → (x y : ℕ) → Bool
 isPixel s u x y = eqb (refusesAll s) 0 && hasPixel (whereIs (s .state) u) x y
 
--- A call with its units; only a text looks at them.
-pub record Invocation : Type 0 where
-  pub call : Call
-  pub units : List ℕ
-
 abbrev pub planFor : Invocation → Device → Plan
-planFor c s = planOf (c .call) (c .units) (s .state) (s .memories)
+planFor c s = plan c (s .state) (length (s .memories .panel)) (length (s .memories .store))
 
 -- the answer of a call with the record after it; the device after it
 abbrev pub answer : Invocation → Device → Outcome

@@ -5,11 +5,13 @@ ghost use mathlib.Core.Path.{_≡_};
 ghost use Rattle.plan.specs.Open.{Opened};
 ghost use Rattle.plan.specs.Followed.{OnBoth};
 ghost use Rattle.snapshot.specs.Snapshot.{rgba8888, ppm, Snapped};
-ghost use Rattle.host.specs.Host.{HostPerformed, pictureLength};
+ghost use Rattle.save.specs.Save.{Saved};
+ghost use Rattle.host.specs.Host.{HostPerformed, HostLoaded, pictureLength};
 use host_call::HostCall;
 use host_call::ParsedCall;
 use host_reply::Reply;
 use plan::Answer;
+use save::Saving;
 use surface::MAX_SIDE;
 
 // Opens a device (`open::open`). Returns the number of the refusal, 0 if the open is accepted.
@@ -44,6 +46,28 @@ pub extern "C" fn ravinefork_perform(
             host_reply::reply_of(answer)
         }
     }
+}
+
+// Loads a saved table (`load::load`). The panel and the created bitmaps are black afterwards.
+#[no_mangle]
+pub extern "C" fn ravinefork_load(
+    numbers: &mut [u32],
+    bytes: &[u8],
+    panel: &mut [u8],
+    store: &mut [u8],
+) -> Reply
+    ensures { λ r. ⌜ OnBoth (HostLoaded (now (bytes .entry))) numbers panel store r ⌝ }
+{
+    let answer = load::load(numbers, bytes, panel, store);
+    host_reply::reply_of(answer)
+}
+
+// Saves the table of the record (`save::save`). Pixels are not saved.
+#[no_mangle]
+pub extern "C" fn ravinefork_save(numbers: &[u32], out: &mut [u8]) -> Saving
+    ensures { λ r. ⌜ Saved (now (numbers .entry)) (now (out .entry)) r (now (out .exit)) ⌝ }
+{
+    save::save(numbers, out)
 }
 
 // Writes the panel's pixels as R, G, B, 255. Returns the number of the refusal, 0 if the snapshot is written.

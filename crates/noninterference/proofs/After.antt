@@ -9,7 +9,8 @@ use Rattle.place.specs.declared.SurfaceId.the-variants.{Bitmap}
 use Rattle.place.specs.Place.{same}
 use Rattle.paint.specs.Paint.{Source, black, sampled, Paint, draw, blank, close}
 use Rattle.paint.specs.Taint.{Taint, sampleTainted, Reads, byD, byS, taintedBy, tainted}
-use Rattle.execution.specs.Execution.{Device, Invocation, planFor, answer, step, run}
+use Rattle.plan.specs.Calls.{Invocation}
+use Rattle.execution.specs.Execution.{Device, planFor, answer, step, run}
 use Rattle.execution.proofs.Steps.{step-kept}
 use Rattle.noninterference.specs.Claim.{taintAfter, taintOn}
 

@@ -4,6 +4,7 @@ use mathlib.Core.List.{List, [], _∷_}
 use mathlib.Core.Path.{_≡_, refl, sym, _∙_, ap₂, subst₂, subst₃}
 use Prim.Native.Nat.{ℕ}
 use lib.Dec.{eqb}
+use lib.ListN.{length}
 use borrow.Author.Tests.{eqb-true, eq-eqb}
 use Rattle.arithmetic.proofs.Test.{both, together}
 use Rattle.gdi.specs.declared.GdiState.{GdiState}
@@ -12,11 +13,10 @@ use Rattle.paint.specs.Memories.{Memories}
 use Rattle.paint.specs.Paint.{after}
 use Rattle.paint.specs.Taint.{Taint, tainted}
 use Rattle.paint.proofs.Alike.{ReadyWith}
-use Rattle.plan.specs.declared.Call.{Call}
 use Rattle.plan.specs.Plan.{Plan, refuse}
-use Rattle.plan.specs.Calls.{act, plan, planOf}
-use Rattle.execution.specs.Execution.{Device, device, refusesAll, Invocation, planFor, answer, step, run}
-use Rattle.execution.proofs.Shape.{Shape, act-shape}
+use Rattle.plan.specs.Calls.{Invocation, plan}
+use Rattle.execution.specs.Execution.{Device, device, refusesAll, planFor, answer, step, run}
+use Rattle.execution.proofs.Shape.{Shape, Form, checked, question, form-of}
 use Rattle.execution.proofs.Steady.{shape-steady}
 use Rattle.execution.proofs.Steps.{step-kept, run-kept, run-refused}
 use Rattle.noninterference.specs.Claim.{Agree, taintAfter, taintOn, Noninterference}
@@ -44,21 +44,24 @@ module _ (m : Taint) (b : GdiState) (ms ns : Memories) (a : Agree m (device b ms
         pixels = λ u x y i n. shape-alike shape .alike m ms ns l l′ (λ u x y i n. a .pixels u x y (together (eq-eqb _ _ (ready-accepts l)) i) n) u x y (both still _ i .1) n;
       }
 
-  plan-agree : (c : Call) (us : List ℕ) → AgreeAfter (planOf c us b ms) m b ms ns
-  unfolding plan
-  plan-agree c us = by (eqb (refusesAll (device b ms)) 0) refl
+  plan-agree : (c : Invocation) → AgreeAfter (planFor c (device b ms)) m b ms ns
+  plan-agree c = by (form-of b c _ _)
     where
-      by : (t : Bool) → eqb (refusesAll (device b ms)) 0 ≡ t → AgreeAfter (cond t (act c us b) (refuse (refusesAll (device b ms)) b)) m b ms ns
-      by true e = looked-agree (ready b _ _ _ refl (eqb-true _ _ e)) (act c us b) (act-shape b c us)
-      by false e = refused-agree
+      checked-agree : (p : Plan) → Shape b p → (t : Bool) → eqb (refusesAll (device b ms)) 0 ≡ t → AgreeAfter (cond t p (refuse (refusesAll (device b ms)) b)) m b ms ns
+      checked-agree p shape true e = looked-agree (ready b _ _ _ refl (eqb-true _ _ e)) p shape
+      checked-agree p shape false e = refused-agree
 
--- a call on any two devices that agree: equal answers, and they agree after it
+      by : {p : Plan} → Form b (length (ms .panel)) (length (ms .store)) p → AgreeAfter p m b ms ns
+      by (checked p shape) = checked-agree p shape (eqb (refusesAll (device b ms)) 0) refl
+      by (question x) = refused-agree
+
+-- what is asked of any two devices that agree: equal answers, and they agree after it
 step-agree : (c : Invocation) (m : Taint) (s t : Device) → Agree m s t → (answer c s ≡ answer c t) × Agree (tainted (planFor c s .paint) m) (step c s) (step c t)
 step-agree c m s t a =
-    subst₃ (λ (b : GdiState) (n k : ℕ). Agree m s (device b (t .memories)) → (answer c s ≡ plan (c .call) (c .units) b n k .outcome)
-    × Agree (tainted (planFor c s .paint) m) (step c s) (device (plan (c .call) (c .units) b n k .outcome .state) (after b (plan (c .call) (c .units) b n k .paint) (t .memories))))
+    subst₃ (λ (b : GdiState) (n k : ℕ). Agree m s (device b (t .memories)) → (answer c s ≡ plan c b n k .outcome)
+    × Agree (tainted (planFor c s .paint) m) (step c s) (device (plan c b n k .outcome .state) (after b (plan c b n k .paint) (t .memories))))
     (a .states) (a .panels) (a .stores)
-    (λ h. (refl, plan-agree m (s .state) (s .memories) (t .memories) h (c .call) (c .units))) a
+    (λ h. (refl, plan-agree m (s .state) (s .memories) (t .memories) h c)) a
 
 -- a list of calls
 run-agree : (cs : List Invocation) (m : Taint) (s t : Device) → Agree m s t → (run cs s .0 ≡ run cs t .0) × Agree (taintOn cs s m) (run cs s .1) (run cs t .1)

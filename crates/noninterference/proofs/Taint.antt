@@ -1,7 +1,7 @@
 -- The pixels tainted after each call are those that document 01 names, and no others. Assumes nothing.
-use mathlib.Core.Bool.{Bool, true, false, cond, _||_}
+use mathlib.Core.Bool.{Bool, true, false, cond, _||_, not}
 use mathlib.Core.List.{List, []}
-use mathlib.Core.Logic.{_⊎_, inl, inr, Iff·rfl}
+use mathlib.Core.Logic.{_⊎_, _↔_, inl, inr, Iff·rfl}
 use mathlib.Core.Path.{_≡_, refl, sym, _∙_, ap}
 use Prim.Native.Nat.{ℕ, _+_}
 use native.Mathlib.Omega.{arith}
@@ -14,19 +14,20 @@ use Rattle.gdi.specs.declared.GdiObject.{GdiObject}
 use Rattle.gdi.specs.declared.Dc.{Dc}
 use Rattle.gdi.specs.declared.Found.the-variants.{At, Nothing}
 use Rattle.gdi.specs.Record.{size, bytesOf, isPosition}
-use Rattle.gdi.specs.Stock.{isStock}
+use Rattle.gdi.specs.Stock.{isStock, stockBitmap}
 use Rattle.gdi.specs.Lookup.{findOf}
-use Rattle.sound.specs.Sound.{used}
+use Rattle.sound.specs.Sound.{used, sizesFit}
 use Rattle.ready.specs.Ready.{commonRefusal}
+use Rattle.saved_table.specs.Held.{heldBy, isTable}
 use Rattle.place.specs.declared.Site.{Site}
 use Rattle.place.specs.declared.SurfaceId.{SurfaceId}
 use Rattle.place.specs.declared.SurfaceId.the-variants.{Panel, Bitmap}
 use Rattle.place.specs.declared.Target.the-variants.{On}
-use Rattle.place.specs.Place.{whereIs, targetOf}
+use Rattle.place.specs.Place.{same, whereIs, targetOf}
 use Rattle.place.proofs.Apart.{clash}
 use Rattle.handles.specs.Handles.{newHandle}
 use Rattle.paint.specs.Paint.{draw, closing}
-use Rattle.paint.specs.Taint.{Taint, taintedBy, tainted, Keeps, Exactly, Untaints, everywhere}
+use Rattle.paint.specs.Taint.{Taint, taintedBy, tainted, Keeps, Exactly, Untaints, Clears, everywhere}
 use Rattle.paint.proofs.After.{ruled, draw-exact, two-exact, blank-exact, close-exact}
 use Rattle.plan.specs.Answer.{Parts, refused, answered}
 use Rattle.plan.specs.declared.Area.{Area}
@@ -40,13 +41,14 @@ use Rattle.plan.specs.Delete.{deletionAt, deletionOf}
 use Rattle.plan.specs.Drawing.{patterned, boxOf, rimOf, patternFillOn, patternFill, rectangleOn, rectangle, textOn, text, blitBox, blitted, blitOn, blit}
 use Rattle.plan.specs.Panel.{noEffect, resized, resize}
 use Rattle.plan.specs.Lines.{positionOf, unlessFar, lineOf, lineOn, lineTo}
-use Rattle.plan.specs.Calls.{act, plan}
+use Rattle.plan.specs.Load.{loaded, load as loadTable}
+use Rattle.plan.specs.Calls.{act, Invocation, call, load as loadOf, save as saveInto, plan}
 use Rattle.plan.specs.Refusal.{numberOf}
 use Rattle.plan.proofs.Refusal.{refusals-keep}
-use Rattle.plan.proofs.Cases.{move-by}
+use Rattle.plan.proofs.Cases.{move-by, save-by}
 use Rattle.plan.proofs.Select.{select-unpainted, setting-unpainted}
 use Rattle.noninterference.specs.Claim.{taintAfter}
-use Rattle.noninterference.specs.Taint.{Creates, memory-dc, bitmap, brush, pen, font, Sets, selection, text-color, text-align, bk-color, bk-mode, move, byDestination, bySource, number, taintBy, ExactTaint}
+use Rattle.noninterference.specs.Taint.{Creates, memory-dc, bitmap, brush, pen, font, Sets, selection, text-color, text-align, bk-color, bk-mode, move, byDestination, bySource, number, numberFor, taintBy, taintFor, ExactTaint}
 
 -- a drawing without a source, and one without a code
 plain-exact : (m : Taint) (s : SurfaceId) (region : (x y : ℕ) → Bool) (t c : ℕ) → Exactly m (taintedBy (draw (patterned s region t c)) m) s region (λ x y. (usesDst t ≡ true) × m s x y)
@@ -59,9 +61,25 @@ plain-exact m s region t c = ruled (draw-exact m (patterned s region t c)) (λ x
 solid-exact : (m : Taint) (s : SurfaceId) (region : (x y : ℕ) → Bool) (c : ℕ) → Untaints m (taintedBy (draw (patterned s region 0xF0 c)) m) s region
 solid-exact m s region c = ruled (plain-exact m s region 0xF0 c) (λ x y. ((λ i. clash (i .0)), (λ i. absurd i)))
 
+-- a load clears the panel and all created bitmaps
+abbrev others : SurfaceId → Bool
+others u = not (same u (Bitmap stockBitmap))
+
+loaded-clears : (b : GdiState) (m : Taint) → Clears m (tainted (loaded b .paint) m) others
+unfolding tainted taintedBy
+loaded-clears b m = record { clear = gone; others = kept }
+  where
+    gone : (u : SurfaceId) (x y : ℕ) → others u ≡ true → tainted (loaded b .paint) m u x y → ⊥
+    gone Panel x y e z = z
+    gone (Bitmap h) x y e z = rw e at z
+
+    kept : (u : SurfaceId) (x y : ℕ) → others u ≡ false → tainted (loaded b .paint) m u x y ↔ m u x y
+    kept Panel x y e = clash (sym e)
+    kept (Bitmap h) x y e = rw e Iff·rfl
+
 module _ (b : GdiState) (n k : ℕ) (us : List ℕ) (m : Taint) where
   -- an accepted call has its own plan
-  accepted-plan : (c : Call) → number b n k us c ≡ 0 → plan c us b n k ≡ act c us b
+  accepted-plan : (c : Call) → number b n k us c ≡ 0 → plan (call c us) b n k ≡ act c us b
   unfolding plan
   accepted-plan c = by (eqb (commonRefusal b n k) 0) refl
     where
@@ -71,12 +89,12 @@ module _ (b : GdiState) (n k : ℕ) (us : List ℕ) (m : Taint) where
       by false f e = absurd (eqb-false _ _ f e)
 
   -- the taint after the paints of the call's plan
-  by-plan : (c : Call) {p : Plan} {s : SurfaceId} {r : (x y : ℕ) → Bool} {f : (x y : ℕ) → Type 0} → plan c us b n k ≡ p
+  by-plan : (c : Call) {p : Plan} {s : SurfaceId} {r : (x y : ℕ) → Bool} {f : (x y : ℕ) → Type 0} → plan (call c us) b n k ≡ p
       → Exactly m (tainted (p .paint) m) s r f → Exactly m (taintBy b n k us m c) s r f
   unfolding taintAfter
   by-plan c e x = rw e x
 
-  unpainted-plan : (c : Call) {p : Plan} → plan c us b n k ≡ p → p .paint ≡ [] → Keeps m (taintBy b n k us m c)
+  unpainted-plan : (c : Invocation) {p : Plan} → plan c b n k ≡ p → p .paint ≡ [] → Keeps m (taintFor b n k us m c)
   unfolding taintAfter tainted
   unpainted-plan c e z = rw (e, z) (record { keeps = λ u x y. Iff·rfl })
 
@@ -86,8 +104,8 @@ module _ (b : GdiState) (n k : ℕ) (us : List ℕ) (m : Taint) where
   unpainted c z = by (eqb (commonRefusal b n k) 0) refl
     where
       by : (t : Bool) → eqb (commonRefusal b n k) 0 ≡ t → Keeps m (taintBy b n k us m c)
-      by true f = unpainted-plan c {p = act c us b} (rw f) z
-      by false f = unpainted-plan c {p = refuse (commonRefusal b n k) b} (rw f) refl
+      by true f = unpainted-plan (call c us) {p = act c us b} (rw f) z
+      by false f = unpainted-plan (call c us) {p = refuse (commonRefusal b n k) b} (rw f) refl
 
   module _ (dc : ℕ) (a : Area) (s : SurfaceId) (i : Site) (d : Dc) (e : targetOf b dc ≡ On s i d) where
     fill-plan : (rop : ℕ) → patternFill b dc a rop ≡ patternFillOn b a (tableOf rop) s d
@@ -202,7 +220,7 @@ module _ (b : GdiState) (n k : ℕ) (us : List ℕ) (m : Taint) where
     act-created pen = create-taint _
     act-created font = create-taint _
 
-    created-taint : (c : Call) → Creates c → plan c us b n k .outcome .answer ≡ answered h → Untaints m (taintBy b n k us m c) (Bitmap h) everywhere
+    created-taint : (c : Call) → Creates c → plan (call c us) b n k .outcome .answer ≡ answered h → Untaints m (taintBy b n k us m c) (Bitmap h) everywhere
     unfolding plan taintAfter
     created-taint c i = by (eqb (commonRefusal b n k) 0) refl
       where
@@ -229,6 +247,18 @@ module _ (b : GdiState) (n k : ℕ) (us : List ℕ) (m : Taint) where
     unfolding tainted
     deletion-taint c i z e = by-plan c {p = act c us b} (accepted-plan c z) (rw e (close-exact m h _ _ _))
 
+  load-taint : (bytes : List ℕ) → numberFor b n k us (loadOf bytes) ≡ 0 → Clears m (taintFor b n k us m (loadOf bytes)) others
+  unfolding plan loadTable taintAfter
+  load-taint bytes = by (eqb (commonRefusal b n k) 0) refl (isTable b bytes) (sizesFit (heldBy b bytes))
+    where
+      by : (s : Bool) → eqb (commonRefusal b n k) 0 ≡ s → (t u : Bool)
+          → numberOf (cond s (cond t (cond u (loaded (heldBy b bytes)) (refuse 7 b)) (refuse 12 b)) (refuse (commonRefusal b n k) b)) ≡ 0
+          → Clears m (tainted (cond s (cond t (cond u (loaded (heldBy b bytes)) (refuse 7 b)) (refuse 12 b)) (refuse (commonRefusal b n k) b) .paint) m) others
+      by true f true true z = loaded-clears (heldBy b bytes) m
+      by true f true false z = absurd (omega arith)
+      by true f false u z = absurd (omega arith)
+      by false f t u z = absurd (eqb-false _ _ f z)
+
   act-set : {c : Call} → Sets c → act c us b .paint ≡ []
   unfolding act
   act-set (selection {dc = dc} {h = h}) = select-unpainted b dc h .paint
@@ -254,7 +284,8 @@ module _ (b : GdiState) (n k : ℕ) (us : List ℕ) (m : Taint) where
         pattern-fill = λ dc a rop s i d z e. fill-taint dc a s i d e rop z;
         blit = λ dc a src p rop s q i j d o z u e f. blit-taint dc a s i d e src p rop z q j o u f;
         blit-ignoring = λ dc a src p rop s i d z u e. ignoring-taint dc a s i d e src p rop z u;
-        refused = λ c ne. unpainted-plan c (refusals-keep c us b n k ne) refl;
+        refused = λ c ne. unpainted-plan c (refusals-keep c b n k ne) refl;
+        save = λ room. unpainted-plan (saveInto room) refl (unfold plan in save-by (λ p. p .paint ≡ []) b (λ i. refl) room refl);
         set = λ c i. unpainted c (act-set i);
         not-resized = λ w h e. unpainted (Resize w h) (not-resized w h e);
         not-deleted = λ h e. unpainted (Delete h) (stays-plan h _ _ _ e);
@@ -262,4 +293,5 @@ module _ (b : GdiState) (n k : ℕ) (us : List ℕ) (m : Taint) where
         deleted = λ h i z e f. deletion-taint h (Delete h) i z (goes-plan h _ _ _ i e f);
         removed = λ h i z e f. deletion-taint h (Remove h) i z (goes-plan h _ _ _ i e f);
         created = λ c h. created-taint h c;
+        load = load-taint;
       }

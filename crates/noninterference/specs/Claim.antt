@@ -9,8 +9,8 @@ use Rattle.place.specs.declared.SurfaceId.{SurfaceId}
 use Rattle.place.specs.Place.{whereIs}
 use Rattle.paint.specs.Memories.{colourAt}
 use Rattle.paint.specs.Taint.{Taint, tainted}
-use Rattle.plan.specs.Calls.{plan}
-use Rattle.execution.specs.Execution.{Device, refusesAll, isPixel, Invocation, run}
+use Rattle.plan.specs.Calls.{Invocation, plan}
+use Rattle.execution.specs.Execution.{Device, refusesAll, isPixel, run}
 
 -- Two devices agree except at tainted pixels: their records are equal, their memories have equal lengths, and every pixel that is
 -- not tainted has the same colour on both.
@@ -25,7 +25,7 @@ pub record Agree (m : Taint) (s t : Device) : Type 0 where
 unfoldable pub taintAfter : List Invocation → GdiState → (panel-len store-len : ℕ) → Taint → Taint
 taintAfter [] b n k m = m
 taintAfter (c ∷ cs) b n k m =
-    let p = plan (c .call) (c .units) b n k in
+    let p = plan c b n k in
     taintAfter cs (p .outcome .state) n k (tainted (p .paint) m)
 
 -- the same, for a device

@@ -1,6 +1,6 @@
 -- The taint after a call, exactly: a field for each sentence of document 01's 'Marked pixels'. The claim alone would also hold of
 -- too much taint.
-use mathlib.Core.Bool.{Bool, true, false, _||_}
+use mathlib.Core.Bool.{Bool, true, false, not, _||_}
 use mathlib.Core.List.{List, [], _∷_}
 use mathlib.Core.Logic.{_⊎_}
 use mathlib.Core.Path.{_≡_}
@@ -13,14 +13,14 @@ use Rattle.text.specs.Ink.{unitCount, textInk}
 use Rattle.gdi.specs.declared.GdiState.{GdiState}
 use Rattle.gdi.specs.declared.Dc.{Dc}
 use Rattle.gdi.specs.declared.Found.the-variants.{At, Nothing}
-use Rattle.gdi.specs.Stock.{isStock}
+use Rattle.gdi.specs.Stock.{isStock, stockBitmap}
 use Rattle.gdi.specs.Lookup.{findOf}
 use Rattle.place.specs.declared.Site.{Site}
 use Rattle.place.specs.declared.SurfaceId.{SurfaceId}
 use Rattle.place.specs.declared.SurfaceId.the-variants.{Panel, Bitmap}
 use Rattle.place.specs.declared.Target.the-variants.{On}
-use Rattle.place.specs.Place.{whereIs, targetOf}
-use Rattle.paint.specs.Taint.{Taint, Keeps, Exactly, Untaints, everywhere}
+use Rattle.place.specs.Place.{same, whereIs, targetOf}
+use Rattle.paint.specs.Taint.{Taint, Keeps, Exactly, Untaints, Clears, everywhere}
 use Rattle.plan.specs.Answer.{answered}
 use Rattle.plan.specs.declared.Area.{Area}
 use Rattle.plan.specs.declared.Point.{Point}
@@ -29,7 +29,7 @@ use Rattle.plan.specs.declared.Call.the-variants.{CreateMemoryDc, CreateCompati
 use Rattle.plan.specs.Drawing.{boxOf, rimOf, blitBox, columnFor, rowFor}
 use Rattle.plan.specs.Panel.{noEffect}
 use Rattle.plan.specs.Lines.{positionOf, lineOf}
-use Rattle.plan.specs.Calls.{plan}
+use Rattle.plan.specs.Calls.{Invocation, call, load as loadOf, save as saveInto, plan}
 use Rattle.plan.specs.Refusal.{numberOf}
 use Rattle.noninterference.specs.Claim.{taintAfter}
 
@@ -60,13 +60,19 @@ bySource m rop q a p x y = (usesSrc (tableOf rop) ≡ true) × m q (columnFor a 
 
 -- One call on a record, lent with memories of these lengths.
 module _ (b : GdiState) (panel-len store-len : ℕ) (units : List ℕ) where
-  -- its number; 0 if it is accepted
+  -- its number; 0 if it is accepted. The same of a load or a save
+  abbrev pub numberFor : Invocation → ℕ
+  numberFor c = numberOf (plan c b panel-len store-len)
+
   abbrev pub number : Call → ℕ
-  number c = numberOf (plan c units b panel-len store-len)
+  number c = numberFor (call c units)
 
   -- the taint after it, as in the claim; m is the taint before it
+  abbrev pub taintFor : Taint → Invocation → Taint
+  taintFor m c = taintAfter (c ∷ []) b panel-len store-len m
+
   abbrev pub taintBy : Taint → Call → Taint
-  taintBy m c = taintAfter (record { call = c; units = units } ∷ []) b panel-len store-len m
+  taintBy m c = taintFor m (call c units)
 
   -- For every call and every outcome: which pixels are drawn, and which are tainted afterwards.
   pub record ExactTaint (m : Taint) : Type 0 where
@@ -90,9 +96,10 @@ module _ (b : GdiState) (panel-len store-len : ℕ) (units : List ℕ) where
     pub blit-ignoring : (dc : ℕ) (a : Area) (src : ℕ) (p : Point) (rop : ℕ) (s : SurfaceId) (i : Site) (d : Dc) → number (Blit dc a src p rop) ≡ 0
         → usesSrc (tableOf rop) ≡ false → targetOf b dc ≡ On s i d
         → Exactly m (taintBy m (Blit dc a src p rop)) s (boxOf a) (byDestination m rop s)
-    -- pixels not drawn keep their taint, and a refused call keeps all: a selection, a setting, a move, a resize without effect, and a
-    -- deletion or removal of a stock or absent handle draw no pixel
-    pub refused : (c : Call) → (number c ≡ 0 → ⊥) → Keeps m (taintBy m c)
+    -- pixels not drawn keep their taint, and a refused call keeps all: a selection, a setting, a move, a resize without effect, a save,
+    -- and a deletion or removal of a stock or absent handle draw no pixel
+    pub refused : (c : Invocation) → (numberFor c ≡ 0 → ⊥) → Keeps m (taintFor m c)
+    pub save : (room : ℕ) → Keeps m (taintFor m (saveInto room))
     pub set : (c : Call) → Sets c → Keeps m (taintBy m c)
     pub not-resized : (w h : ℕ) → noEffect b w h ≡ true → Keeps m (taintBy m (Resize w h))
     pub not-deleted : (h : ℕ) → (isStock h ≡ true) ⊎ (findOf b h ≡ Nothing) → Keeps m (taintBy m (Delete h))
@@ -101,5 +108,7 @@ module _ (b : GdiState) (panel-len store-len : ℕ) (units : List ℕ) where
     pub deleted : (h i : ℕ) → number (Delete h) ≡ 0 → isStock h ≡ false → findOf b h ≡ At i → Untaints m (taintBy m (Delete h)) (Bitmap h) everywhere
     pub removed : (h i : ℕ) → number (Remove h) ≡ 0 → isStock h ≡ false → findOf b h ≡ At i → Untaints m (taintBy m (Remove h)) (Bitmap h) everywhere
     -- a new bitmap has no taint
-    pub created : (c : Call) (h : ℕ) → Creates c → plan c units b panel-len store-len .outcome .answer ≡ answered h
+    pub created : (c : Call) (h : ℕ) → Creates c → plan (call c units) b panel-len store-len .outcome .answer ≡ answered h
         → Untaints m (taintBy m c) (Bitmap h) everywhere
+    -- loading clears the colour marks of panel and created bitmaps, of whatever handle; the stock bitmap's stay
+    pub load : (bytes : List ℕ) → numberFor (loadOf bytes) ≡ 0 → Clears m (taintFor m (loadOf bytes)) (λ u. not (same u (Bitmap stockBitmap)))

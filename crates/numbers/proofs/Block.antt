@@ -10,26 +10,15 @@ use borrow.Author.Tests.{ne-eqb}
 use Rattle.words.specs.Parts.{withPart}
 use Rattle.gdi.specs.declared.DcSurface.{DcSurface}
 use Rattle.gdi.specs.declared.DcSurface.the-variants.{Screen, Memory}
-use Rattle.gdi.specs.declared.SelectedBitmap.{SelectedBitmap}
-use Rattle.gdi.specs.declared.SelectedBitmap.the-variants.{Unset, Chosen}
 use Rattle.gdi.specs.declared.Dc.{Dc}
 use Rattle.gdi.specs.declared.GdiObject.the-variants.{Dc as DcOf}
 use Rattle.gdi.specs.declared.Slot.{Slot}
-use Rattle.numbers.specs.Block.{flagOf, isFlag, flagNumber, dcFields, isDc, objectOf, isObject, slotOf, isSlot, ObjectCoded}
+use Rattle.numbers.specs.Block.{flagOf, isFlag, flagNumber, presentNumber, bitmapNumber, dcFields, isDc, objectOf, isObject, slotOf, isSlot, ObjectCoded}
 
 -- the number of a surface: 0 the screen, 1 memory
 abbrev pub surfaceNumber : DcSurface → ℕ
 surfaceNumber Screen = 0
 surfaceNumber Memory = 1
-
--- the numbers of a selected bitmap: whether there is one, and its handle, 0 if there is none
-abbrev pub presentNumber : SelectedBitmap → ℕ
-presentNumber Unset = 0
-presentNumber (Chosen h) = 1
-
-abbrev pub bitmapNumber : SelectedBitmap → ℕ
-bitmapNumber Unset = 0
-bitmapNumber (Chosen h) = h
 
 -- The numbers encode this DC; this slot.
 pub record DcCoded (d : Dc) (l : List ℕ) : Type 0 where

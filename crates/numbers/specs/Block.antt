@@ -2,7 +2,8 @@
 use mathlib.Core.Bool.{Bool, true, cond, _&&_, _||_}
 use mathlib.Core.List.{List}
 use mathlib.Core.Path.{_≡_}
-use Prim.Native.Nat.{ℕ, _+_, _-_}
+use Prim.Native.Nat.{ℕ, suc, _+_, _-_}
+use lib.IntN.{ℤ, pos, negsuc}
 use lib.Dec.{eqb, leb}
 use lib.ListN.{getD}
 use Rattle.words.specs.Parts.{part}
@@ -41,6 +42,20 @@ surfaceOf n = cond (flagOf n) Memory Screen
 abbrev pub bitmapOf : (present h : ℕ) → SelectedBitmap
 bitmapOf present h = cond (flagOf present) (Chosen h) Unset
 
+-- and the other way round: a bitmap that is absent has the number 0
+abbrev pub presentNumber : SelectedBitmap → ℕ
+presentNumber Unset = 0
+presentNumber (Chosen h) = 1
+
+abbrev pub bitmapNumber : SelectedBitmap → ℕ
+bitmapNumber Unset = 0
+bitmapNumber (Chosen h) = h
+
+-- the two's complement of an integer of 32 bits
+abbrev pub complement32 : ℤ → ℕ
+complement32 (pos n) = n
+complement32 (negsuc n) = 4294967296 - suc n
+
 -- The numbers of a DC: surface, bitmap present, bitmap, brush, pen, font, brush colour, pen colour, text colour, alignment,
 -- background colour, transparent, position x and y in two's complement.
 unfoldable pub dcFields : List ℕ → Dc
@@ -68,6 +83,14 @@ isDc l = isFlag (at l surfaceIn) && (isFlag (at l bkTransparentIn) && (flagOf (a
 -- the numbers of a bitmap
 abbrev pub bitmapFields : List ℕ → BitmapRecord
 bitmapFields l = record { width = at l bitmapWidthIn; height = at l bitmapHeightIn; «host_dirty» = flagOf (at l bitmapDirtyIn) }
+
+-- the kinds by number
+abbrev pub kindNumber : GdiObject → ℕ
+kindNumber (DcOf d) = 0
+kindNumber (Bitmap m) = 1
+kindNumber (Brush x) = 2
+kindNumber (Pen x) = 3
+kindNumber (Font x) = 4
 
 -- An object is the number of its kind and as many numbers as a DC has. Kinds are 0 DC, 1 bitmap, 2 brush, 3 pen, 4 font. A bitmap
 -- has width, height and dirty mark; a brush its colour; a pen colour and width; a font its height in two's complement.

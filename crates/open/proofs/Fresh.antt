@@ -17,8 +17,8 @@ use Rattle.numbers.specs.Block.{at, isFlag, isDc, slotOf, isSlot}
 use Rattle.numbers.specs.View.{slotIn, slotTable, view, isRecord, Updated}
 use Rattle.numbers.proofs.Block.{DcCoded, lentBack, lent-back}
 use Rattle.numbers.proofs.View.{length-table, table-slot}
-use Rattle.plan.specs.Vacant.{Vacant}
-use Rattle.plan.proofs.Vacant.{stays-vacant}
+use Rattle.plan.specs.Restorable.{Restorable}
+use Rattle.plan.proofs.Restorable.{stays-restorable}
 
 -- the numbers after a part that was written are kept
 with-tail : (m xs : List ℕ) (p n : ℕ) → length xs ≡ n → p + n ≤ length m → (k : ℕ) → p + n ≤ k → drop k (withPart m p n xs) ≡ drop k m
@@ -52,17 +52,17 @@ module _ (n k w h : ℕ) (l ys : List ℕ) (long : length l ≡ recordSize) (len
   dc : part whole screenPlace dcSize ≡ ys
   dc = part-same first ys screenPlace dcSize len (omega (arith, first-long))
 
-  vacant : Vacant (fresh n k w h)
-  vacant = stays-vacant .first n k w h
+  restorable : Restorable (fresh n k w h)
+  restorable = stays-restorable .first n k w h
 
   slot : (i : ℕ) → slotIn whole (at whole countPlace) i ≡ vacantSlot
   slot i = ap (λ (t : Bool). cond t (slotOf (part whole (slotPlace i) slotSize)) vacantSlot) (le-ltb i (at whole countPlace) (omega (arith, number countPlace (omega arith))))
 
   objects : slotTable whole (at whole countPlace) ≡ fresh n k w h .objects
   objects =
-      ext-getD noSlot (slotTable whole (at whole countPlace)) (fresh n k w h .objects) (length-table (slotIn whole (at whole countPlace)) 0 256 ∙ sym (vacant .table))
+      ext-getD noSlot (slotTable whole (at whole countPlace)) (fresh n k w h .objects) (length-table (slotIn whole (at whole countPlace)) 0 256 ∙ sym (restorable .table))
       (λ i lt. let b : i < 256 = omega (arith, length-table (slotIn whole (at whole countPlace)) 0 256) in
-      table-slot (slotIn whole (at whole countPlace)) i b ∙ slot i ∙ sym (vacant .vacant i (omega arith) b))
+      table-slot (slotIn whole (at whole countPlace)) i b ∙ slot i ∙ sym (restorable .vacant i (omega arith) b))
 
   seen : view whole ≡ fresh n k w h
   unfolding view

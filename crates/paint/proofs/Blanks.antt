@@ -1,5 +1,5 @@
--- Blanked bytes: cleared surfaces are black, and every other pixel keeps its colour; with new objects and the resized panel as its
--- two cases. Assumes nothing.
+-- Blanked bytes: cleared surfaces are black, and every other pixel keeps its colour; with new objects, the resized
+-- panel and all created bitmaps as its cases. Assumes nothing.
 use mathlib.Core.Bool.{Bool, true, false, cond, not}
 use mathlib.Core.List.{List, [], _∷_, _++_}
 use mathlib.Core.Path.{_≡_, refl, sym, _∙_, ap, subst}
@@ -32,11 +32,11 @@ use Rattle.place.specs.declared.Place.the-variants.{Nowhere, At}
 use Rattle.place.specs.declared.SurfaceId.{SurfaceId}
 use Rattle.place.specs.declared.SurfaceId.the-variants.{Panel, Bitmap}
 use Rattle.place.specs.Place.{slotsFrom, live, placeFrom, locate, whereIs, Within}
-use Rattle.place.proofs.Apart.{clash, From, nothing, some, bitmap-from, places}
+use Rattle.place.proofs.Apart.{clash, From, nothing, some, locate-from, bitmap-from, places}
 use Rattle.handles.specs.Handles.{newHandle, added}
 use Rattle.handles.proofs.Added.{newSlot, live-added, new-absent, new-no-stock}
 use Rattle.paint.specs.Memories.{Memories, memoryOf, withMemory, widthOf, hasPixel, pixelsAt, colourAt}
-use Rattle.paint.specs.Paint.{blank, only, paintedBy}
+use Rattle.paint.specs.Paint.{blank, only, created, paintedBy}
 use Rattle.paint.specs.Taint.{Taint, taintedBy}
 use Rattle.paint.proofs.Alike.{Alike}
 
@@ -216,3 +216,18 @@ sized-blanked b b′ w h panel bitmaps (Bitmap k) = old (bitmaps k) (by (bitmap-
     by : {at : Place} → From 0 at → Off 0 (size w h) PanelMemory at
     by nothing = no-bytes
     by (some le) = in-store
+
+-- all store past the stock bitmap: every created bitmap lies there, whatever the record was before
+pub store-blanked : (b b′ : GdiState) → isSound b′ ≡ true → whereIs b′ Panel ≡ whereIs b Panel
+    → (u : SurfaceId) → Blanked Store 2 (b′ .«store_len» - 2) (created u) (whereIs b u) (whereIs b′ u)
+store-blanked b b′ sound panel Panel = old panel on-panel
+store-blanked b b′ sound panel (Bitmap h) = by (eqb h stockBitmap) refl
+  where
+    among : (at : Place) → From 2 at → Within (b′ .«panel_len») (b′ .«store_len») at → Among 2 (b′ .«store_len» - 2) Store at
+    among Nowhere nothing i = no-place
+    among (At Store q x y) (some le) i = within {q = q} {w = x} {h = y} le (omega (arith, i .fits, le))
+
+    by : (t : Bool) → eqb h stockBitmap ≡ t
+        → Blanked Store 2 (b′ .«store_len» - 2) (not t) (cond t (At Store 0 1 1) (locate (live b) 2 h)) (cond t (At Store 0 1 1) (locate (live b′) 2 h))
+    by true e = old refl (apart {q = 0} {w = 1} {h = 1} (λ j from to there end. omega arith))
+    by false e = new (among (locate (live b′) 2 h) (locate-from (live b′) 2 2 h (omega arith)) (rw e at (places b′ sound (Bitmap h))))

@@ -1,18 +1,21 @@
 -- What a call does to the memories: a list of paints. A paint says which pixels are drawn and how, or which bytes are blanked or
 -- removed; it holds no pixel's colour.
-use mathlib.Core.Bool.{Bool}
+use mathlib.Core.Bool.{Bool, false, not}
 use mathlib.Core.List.{List, [], _∷_}
 use Prim.Native.Nat.{ℕ, _/_, _%_}
+use lib.Dec.{eqb}
 use Rattle.words.specs.Words.{painted, word}
 use Rattle.rop3.specs.Rop3.{applied}
 use Rattle.surface.specs.Region.{wordsOf}
 use Rattle.gdi.specs.declared.GdiState.{GdiState}
 use Rattle.gdi.specs.Record.{bytesOf}
+use Rattle.gdi.specs.Stock.{stockBitmap}
 use Rattle.gdi.specs.Lookup.{objectAt}
 use Rattle.sound.specs.Sound.{startOf, used}
 use Rattle.memory.specs.Gap.{closedUp, blanked}
 use Rattle.place.specs.declared.Memory.{Memory}
 use Rattle.place.specs.declared.SurfaceId.{SurfaceId}
+use Rattle.place.specs.declared.SurfaceId.the-variants.{Panel, Bitmap}
 use Rattle.place.specs.Place.{same, whereIs}
 use Rattle.paint.specs.Memories.{Memories, memories, memoryOf, withMemory, widthOf, over, colourAt}
 
@@ -32,8 +35,8 @@ pub record Draw : Type 0 where
 
 pub data Paint : Type 0 where
   draw : Draw → Paint
-  -- the n bytes of the memory from p on become 0; the surfaces of which `clears` holds lie there afterwards: a new bitmap, or the
-  -- panel at its new size
+  -- the n bytes of the memory from p on become 0; the surfaces of which `clears` holds lie there afterwards: a new bitmap, the
+  -- panel at its new size, or all created bitmaps after a load
   blank : Memory → (p n : ℕ) → (clears : SurfaceId → Bool) → Paint
   -- the bitmap h is removed: the n bytes of the store from p on. The bytes after them, up to used, move down, and the freed end
   -- becomes 0
@@ -42,6 +45,11 @@ pub data Paint : Type 0 where
 -- the surface u alone
 abbrev pub only : SurfaceId → SurfaceId → Bool
 only u s = same s u
+
+-- every bitmap but the stock bitmap, of whatever handle
+abbrev pub created : SurfaceId → Bool
+created Panel = false
+created (Bitmap h) = not (eqb h stockBitmap)
 
 abbrev pub operand : GdiState → Memories → Source → (x y : ℕ) → ℕ
 operand b ms black x y = 0

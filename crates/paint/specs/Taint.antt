@@ -24,7 +24,8 @@ pub data Reads (m : Taint) (d : Draw) (s : SurfaceId) (x y : ℕ) : Type 0 where
   byD : usesDst (d .table) ≡ true → m s x y → Reads m d s x y
   byS : usesSrc (d .table) ≡ true → sampleTainted m (d .source) x y → Reads m d s x y
 
--- pixels not drawn keep their taint; a new bitmap and a resized panel have none, and a removed bitmap's taint is removed with it
+-- pixels not drawn keep their taint; a new bitmap and a resized panel have none, nor have the panel and created bitmaps after a load, and
+-- a removed bitmap's taint is removed with it
 unfoldable pub taintedBy : Paint → Taint → Taint
 taintedBy (draw d) m s x y = cond (same s (d .target) && d .region x y) (Reads m d s x y) (m s x y)
 taintedBy (blank k p n clears) m s x y = cond (clears s) ⊥ (m s x y)
@@ -47,6 +48,11 @@ pub record Exactly (before after : Taint) (s : SurfaceId) (region : (x y : ℕ) 
 -- The pixels of s in the region are drawn, and none of them is tainted afterwards.
 abbrev pub Untaints : (before after : Taint) → SurfaceId → (region : (x y : ℕ) → Bool) → Type 0
 Untaints m n s region = Exactly m n s region (λ x y. ⊥)
+
+-- No pixel of these surfaces is tainted afterwards. All others keep their taint.
+pub record Clears (before after : Taint) (cleared : SurfaceId → Bool) : Type 0 where
+  pub clear : (u : SurfaceId) (x y : ℕ) → cleared u ≡ true → after u x y → ⊥
+  pub others : (u : SurfaceId) (x y : ℕ) → cleared u ≡ false → after u x y ↔ before u x y
 
 -- every pixel of a surface
 abbrev pub everywhere : (x y : ℕ) → Bool

@@ -1,5 +1,6 @@
 // One entry point for every call, on a flat record.
 ghost use Rattle.plan.specs.Answer.{partsOf};
+ghost use Rattle.plan.specs.Calls.{call as asked};
 ghost use Rattle.plan.specs.Followed.{Performed, OnBoth};
 use plan::Answer;
 use plan::Call;
@@ -12,7 +13,7 @@ pub fn perform(
     panel: &mut [u8],
     store: &mut [u8],
 ) -> Answer
-    ensures { λ r. ⌜ OnBoth (Performed call (now (units .entry))) numbers panel store (partsOf r) ⌝ }
+    ensures { λ r. ⌜ OnBoth (Performed (asked call (now (units .entry)))) numbers panel store (partsOf r) ⌝ }
 {
     let no = ready::common_refusal(numbers, panel.len(), store.len());
     if no != 0 {

@@ -56,7 +56,7 @@ frame-from (Brush x) p q le = nothing
 frame-from (Pen x) p q le = nothing
 frame-from (Font x) p q le = nothing
 
-locate-from : (l : List Slot) (p q h : ℕ) → q ≤ p → From q (locate l p h)
+pub locate-from : (l : List Slot) (p q h : ℕ) → q ≤ p → From q (locate l p h)
 unfolding locate
 locate-from [] p q h le = nothing
 locate-from (s ∷ l) p q h le = by (eqb (s .handle) h) (locate-from l (p + bytesOf (s .object)) q h (omega arith))

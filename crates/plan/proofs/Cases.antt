@@ -5,6 +5,7 @@ use mathlib.Core.Path.{_≡_, refl}
 use Prim.Native.Nat.{ℕ, _≤_}
 use native.Mathlib.Omega.{arith}
 use lib.Dec.{eqb, leb, ltb}
+use lib.ListN.{length}
 use borrow.Author.Tests.{eqb-false, le-leb, ltb-false}
 use Rattle.arithmetic.proofs.Test.{neither, together}
 use Rattle.rop3.specs.Rop3.{tableOf, usesSrc}
@@ -16,17 +17,22 @@ use Rattle.gdi.specs.declared.DcFound.{DcFound}
 use Rattle.gdi.specs.declared.DcFound.the-variants.{Is, Absent}
 use Rattle.gdi.specs.Record.{size, isPosition}
 use Rattle.gdi.specs.Lookup.{dcOf}
+use Rattle.sound.specs.Sound.{sizesFit, isSound}
+use Rattle.saved_table.specs.Table.{savedTable}
+use Rattle.saved_table.specs.Held.{heldBy, isTable}
 use Rattle.place.specs.declared.SurfaceId.{SurfaceId}
 use Rattle.place.specs.declared.Target.{Target}
 use Rattle.place.specs.declared.Target.the-variants.{NoDc, NoSurface, On}
 use Rattle.place.specs.Place.{targetOf}
 use Rattle.plan.specs.declared.Area.{Area}
 use Rattle.plan.specs.declared.Point.{Point}
-use Rattle.plan.specs.Answer.{done}
+use Rattle.plan.specs.Answer.{done, saved}
 use Rattle.plan.specs.Plan.{Plan, recordOnly, refuse}
 use Rattle.plan.specs.Drawing.{onTarget, onSource, patternFillOn, patternFill, rectangleOn, rectangle, textOn, text, blitOn, blit}
 use Rattle.plan.specs.Panel.{resized, resize}
 use Rattle.plan.specs.Lines.{unlessFar, moveOn, moveAt, moveTo, lineOn, lineTo}
+use Rattle.plan.specs.Load.{loaded, load}
+use Rattle.plan.specs.Save.{save}
 
 module _ {ℓ} (P : Plan → Type ℓ) (b : GdiState) (refused : (n : ℕ) → P (refuse n b)) where
   on-target : (q : Target) (f : SurfaceId → Dc → Plan) → ((s : SurfaceId) (d : Dc) → P (f s d)) → P (onTarget b q f)
@@ -109,3 +115,21 @@ module _ {ℓ} (P : Plan → Type ℓ) (b : GdiState) (refused : (n : ℕ) → P
           let z = neither (eqb w 0) (eqb h 0) (neither still present d .0) in
           let n = neither (ltb 4096 w) (ltb 4096 h) e in
           k (is-side w (z .0) (n .0)) (is-side h (z .1) (n .1)) (ltb-false (b .«panel_len») (size w h) f)
+
+  pub load-by : (bytes : List ℕ) → (isTable b bytes ≡ true → sizesFit (heldBy b bytes) ≡ true → P (loaded (heldBy b bytes))) → P (load b bytes)
+  unfolding load
+  load-by bytes k = by (isTable b bytes) refl (sizesFit (heldBy b bytes)) refl
+    where
+      by : (t : Bool) → isTable b bytes ≡ t → (u : Bool) → sizesFit (heldBy b bytes) ≡ u → P (cond t (cond u (loaded (heldBy b bytes)) (refuse 7 b)) (refuse 12 b))
+      by true e true f = k e f
+      by true e false f = refused 7
+      by false e u f = refused 12
+
+  pub save-by : (room : ℕ) → P (recordOnly b (saved (savedTable b))) → P (save b room)
+  unfolding save
+  save-by room k = by (isSound b) (leb (length (savedTable b)) room)
+    where
+      by : (t u : Bool) → P (cond t (cond u (recordOnly b (saved (savedTable b))) (refuse 13 b)) (refuse 9 b))
+      by true true = k
+      by true false = refused 13
+      by false u = refused 9

@@ -25,9 +25,9 @@ use Rattle.plan.specs.Create.{creation, newBitmap, createOf, createBitma
 use Rattle.plan.specs.Delete.{deletionAt, deletionOf}
 use Rattle.plan.specs.Select.{isOther, selectAt, selectInto}
 use Rattle.plan.specs.Settings.{settingAt, setting}
-use Rattle.plan.specs.Calls.{act, plan}
+use Rattle.plan.specs.Calls.{act, Invocation, call as callOf, load, save, whenReady, plan}
 use Rattle.plan.specs.Refusal.{numberOf, RefusalsKeep}
-use Rattle.plan.proofs.Cases.{pattern-fill-by, rectangle-by, text-by, move-by, line-by, blit-by, resize-by}
+use Rattle.plan.proofs.Cases.{pattern-fill-by, rectangle-by, text-by, move-by, line-by, blit-by, resize-by, load-by, save-by}
 
 -- a plan that changes nothing if it refuses
 record Keeps (b : GdiState) (p : Plan) : Type 0 where
@@ -108,10 +108,19 @@ call (Blit dc a src from rop) us b = blit-by (Keeps b) b (refusal b) dc a src fr
 call (MoveTo dc to) us b = move-by (Keeps b) b (refusal b) dc to (λ e d. accepted b _ refl)
 call (LineTo dc to) us b = line-by (Keeps b) b (refusal b) dc to (λ e s d. accepted b _ refl)
 
-pub refusals-keep : RefusalsKeep
-unfolding plan
-refusals-keep c us b n k = by (eqb (commonRefusal b n k) 0) .keeps
+-- what is asked, if the device is ready
+ready-keeps : (b : GdiState) (n k : ℕ) {p : Plan} → Keeps b p → Keeps b (whenReady b n k p)
+ready-keeps b n k {p} keeps = by (eqb (commonRefusal b n k) 0)
   where
-    by : (t : Bool) → Keeps b (cond t (act c us b) (refuse (commonRefusal b n k) b))
-    by true = call c us b
+    by : (t : Bool) → Keeps b (cond t p (refuse (commonRefusal b n k) b))
+    by true = keeps
     by false = refusal b _
+
+invocation : (c : Invocation) (b : GdiState) (n k : ℕ) → Keeps b (plan c b n k)
+unfolding plan
+invocation (callOf c us) b n k = ready-keeps b n k (call c us b)
+invocation (load bytes) b n k = ready-keeps b n k (load-by (Keeps b) b (refusal b) bytes (λ e f. accepted b _ refl))
+invocation (save room) b n k = save-by (Keeps b) b (refusal b) room (accepted b _ refl)
+
+pub refusals-keep : RefusalsKeep
+refusals-keep c b n k = invocation c b n k .keeps

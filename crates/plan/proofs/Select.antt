@@ -59,7 +59,7 @@ moved-still b dc to near = by (dcOf b dc) refl
     by (Is p d) e = updated-still b dc _ e (λ s. record { surface = refl; position = near ∙ sym (found-positioned b dc s e) })
     by Absent e = still-same b
 
-select-same : (d : Dc) (h : ℕ) (k : Kind) → SameSoundness d (selectIn d h k)
+pub select-same : (d : Dc) (h : ℕ) (k : Kind) → SameSoundness d (selectIn d h k)
 select-same d h Bitmap = record { surface = refl; position = refl }
 select-same d h (Brush c) = record { surface = refl; position = refl }
 select-same d h (Pen c) = record { surface = refl; position = refl }

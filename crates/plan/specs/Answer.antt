@@ -1,7 +1,9 @@
 -- What a call answers: a number and values.
 use mathlib.Core.Bool.{Bool, false}
+use mathlib.Core.List.{List, []}
 use Prim.Native.Nat.{ℕ}
 use lib.IntN.{pos}
+use lib.ListN.{length}
 use Rattle.gdi.specs.declared.GdiObject.{GdiObject}
 use Rattle.plan.specs.declared.Point.{Point}
 use Rattle.plan.specs.declared.Answer.{Answer}
@@ -12,20 +14,21 @@ pub data Object : Type 0 where
   none : Object
   some : GdiObject → Object
 
--- An answer's parts: the refusal's number, 0 if the call was accepted; a handle, colour, alignment or advance; a flag; a
--- position; an object.
+-- An answer's parts: the refusal's number, 0 if the call was accepted; a handle, colour, alignment, advance or length; a flag; a
+-- position; an object; the bytes of a saved table.
 pub record Parts : Type 0 where
   pub number : ℕ
   pub value : ℕ
   pub flag : Bool
   pub position : Point
   pub object : Object
+  pub bytes : List ℕ
 
 abbrev pub origin : Point
 origin = record { x = pos 0; y = pos 0 }
 
 abbrev parts : ℕ → ℕ → Bool → Point → Object → Parts
-parts n v f p o = record { number = n; value = v; flag = f; position = p; object = o }
+parts n v f p o = record { number = n; value = v; flag = f; position = p; object = o; bytes = [] }
 
 -- a refusal gives its number, with every other part 0, false or none
 abbrev pub refused : ℕ → Parts
@@ -43,6 +46,10 @@ placed p = parts 0 0 false p none
 
 abbrev pub removed : GdiObject → Parts
 removed o = parts 0 0 false origin (some o)
+
+-- a save gives the table, and its length
+abbrev pub saved : (table : List ℕ) → Parts
+saved t = record { number = 0; value = length t; flag = false; position = origin; object = none; bytes = t }
 
 abbrev pub done : Parts
 done = parts 0 0 false origin none

@@ -1,9 +1,8 @@
--- The plan of every call, after the refusals that all calls share.
+-- The plan of every call, of a load and of a save, after the refusals that they share.
 use mathlib.Core.Bool.{cond}
 use mathlib.Core.List.{List}
 use Prim.Native.Nat.{ℕ}
 use lib.Dec.{eqb}
-use lib.ListN.{length}
 use Rattle.gdi.specs.declared.GdiState.{GdiState}
 use Rattle.gdi.specs.declared.GdiObject.the-variants.{Dc, Brush, Pen, Font}
 use Rattle.gdi.specs.Record.{defaultDc}
@@ -11,7 +10,6 @@ use Rattle.numbers.specs.View.{view, isRecord}
 use Rattle.ready.specs.Ready.{commonRefusal}
 use Rattle.plan.specs.declared.Call.{Call}
 use Rattle.plan.specs.declared.Call.the-variants.{CreateMemoryDc, CreateCompatibleBitmap, CreateSolidBrush, CreatePen, CreateFont, Delete, Remove, SelectInto, SetTextColor, SetTextAlign, SetBkColor, SetBkMode, PatternFill, Rectangle, Text, PanelFill, Resize, Blit, MoveTo, LineTo}
-use Rattle.paint.specs.Memories.{Memories}
 use Rattle.plan.specs.Plan.{Plan, refuse}
 use Rattle.plan.specs.Create.{createOf, createBitmap}
 use Rattle.plan.specs.Delete.{delete, remove}
@@ -20,6 +18,8 @@ use Rattle.plan.specs.Settings.{setTextColor, setTextAlign, setBkColor, 
 use Rattle.plan.specs.Drawing.{patternFill, rectangle, text, blit}
 use Rattle.plan.specs.Panel.{panelFill, resize}
 use Rattle.plan.specs.Lines.{moveTo, lineTo}
+use Rattle.plan.specs.Load.{load as loadTable}
+use Rattle.plan.specs.Save.{save as saveTable}
 
 -- the plan of a call on a ready device; units are those of a text
 unfoldable pub act : Call → (units : List ℕ) → GdiState → Plan
@@ -44,13 +44,23 @@ act (Blit dc a src from rop) us b = blit b dc a src from rop
 act (MoveTo dc to) us b = moveTo b dc to
 act (LineTo dc to) us b = lineTo b dc to
 
--- the plan of a call, from the record and the memories' lengths: 9 and 8 come before all else
-unfoldable pub plan : Call → (units : List ℕ) → GdiState → (panel-len store-len : ℕ) → Plan
-plan c us b n k = cond (eqb (commonRefusal b n k) 0) (act c us b) (refuse (commonRefusal b n k) b)
+-- What is asked of a device: a call with its units, which only a text looks at; a load of these bytes; or a save into an output of so
+-- many bytes. A save is a question: it is answered from the record, and leaves everything as it is.
+pub data Invocation : Type 0 where
+  call : Call → (units : List ℕ) → Invocation
+  load : (bytes : List ℕ) → Invocation
+  save : (room : ℕ) → Invocation
 
-abbrev pub planOf : Call → (units : List ℕ) → GdiState → Memories → Plan
-planOf c us b ms = plan c us b (length (ms .panel)) (length (ms .store))
+-- the plan if the device is ready; 9 and 8 come before all else
+abbrev pub whenReady : GdiState → (panel-len store-len : ℕ) → Plan → Plan
+whenReady b n k p = cond (eqb (commonRefusal b n k) 0) p (refuse (commonRefusal b n k) b)
 
--- the plan of a call on a flat record: 9 if the numbers are no record
-unfoldable pub planOn : Call → (units l : List ℕ) → (panel-len store-len : ℕ) → Plan
-planOn c us l n k = cond (isRecord l) (plan c us (view l) n k) (refuse 9 (view l))
+-- the plan of what is asked, from the record and the memories' lengths; a save takes no memory, so it asks for no length
+unfoldable pub plan : Invocation → GdiState → (panel-len store-len : ℕ) → Plan
+plan (call c us) b n k = whenReady b n k (act c us b)
+plan (load bytes) b n k = whenReady b n k (loadTable b bytes)
+plan (save room) b n k = saveTable b room
+
+-- the same on a flat record: 9 if the numbers are no record
+unfoldable pub planOn : Invocation → (l : List ℕ) → (panel-len store-len : ℕ) → Plan
+planOn c l n k = cond (isRecord l) (plan c (view l) n k) (refuse 9 (view l))

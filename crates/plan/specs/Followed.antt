@@ -8,10 +8,9 @@ use denote.Triple.Both.{Both}
 use Rattle.numbers.specs.View.{view, Updated}
 use Rattle.paint.specs.Memories.{Memories, memories}
 use Rattle.paint.specs.Paint.{after}
-use Rattle.plan.specs.declared.Call.{Call}
 use Rattle.plan.specs.Answer.{Parts}
 use Rattle.plan.specs.Plan.{Plan}
-use Rattle.plan.specs.Calls.{planOn}
+use Rattle.plan.specs.Calls.{Invocation, planOn}
 
 -- A plan was followed: the answer's number and values are the plan's; accepted, the numbers are the plan's record; the memories
 -- have its paints; refused, every number and every byte is as it was.
@@ -21,9 +20,9 @@ pub record Followed (p : Plan) (l : List ℕ) (ms : Memories) (a : Parts) (l′ 
   pub memories : ms′ ≡ after (view l) (p .paint) ms
   pub kept : (a .number ≡ 0 → ⊥) → (l′ ≡ l) × (ms′ ≡ ms)
 
--- A call was performed: its plan was followed.
-abbrev pub Performed : Call → (units l : List ℕ) → Memories → Parts → (l′ : List ℕ) → Memories → Type 0
-Performed c us l ms a l′ ms′ = Followed (planOn c us l (length (ms .panel)) (length (ms .store))) l ms a l′ ms′
+-- What was asked was performed: its plan was followed.
+abbrev pub Performed : Invocation → (l : List ℕ) → Memories → Parts → (l′ : List ℕ) → Memories → Type 0
+Performed c l ms a l′ ms′ = Followed (planOn c l (length (ms .panel)) (length (ms .store))) l ms a l′ ms′
 
 -- A slice lent to a function, as it is at entry and at exit.
 abbrev pub Slice : Type 0

@@ -1,11 +1,9 @@
 -- What a refusal is.
-use mathlib.Core.List.{List}
 use mathlib.Core.Path.{_≡_}
 use Prim.Native.Nat.{ℕ}
 use Rattle.gdi.specs.declared.GdiState.{GdiState}
-use Rattle.plan.specs.declared.Call.{Call}
 use Rattle.plan.specs.Plan.{Plan, refuse}
-use Rattle.plan.specs.Calls.{plan}
+use Rattle.plan.specs.Calls.{Invocation, plan}
 
 -- the number of a plan's answer
 abbrev pub numberOf : Plan → ℕ
@@ -13,6 +11,6 @@ numberOf p = p .outcome .answer .number
 
 -- A refusal gives its number, with every other part of the answer 0, false or none, and changes no byte and no field.
 abbrev pub RefusalsKeep : Type 0
-RefusalsKeep = (c : Call) (units : List ℕ) (b : GdiState) (panel-len store-len : ℕ)
-    → (numberOf (plan c units b panel-len store-len) ≡ 0 → ⊥)
-    → plan c units b panel-len store-len ≡ refuse (numberOf (plan c units b panel-len store-len)) b
+RefusalsKeep = (c : Invocation) (b : GdiState) (panel-len store-len : ℕ)
+    → (numberOf (plan c b panel-len store-len) ≡ 0 → ⊥)
+    → plan c b panel-len store-len ≡ refuse (numberOf (plan c b panel-len store-len)) b

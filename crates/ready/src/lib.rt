@@ -8,6 +8,7 @@ ghost use Rattle.numbers.specs.Block.{at};
 ghost use Rattle.numbers.specs.View.{view, isRecord};
 ghost use Rattle.sound.specs.Sound.{absent, distinct, isSound};
 ghost use Rattle.ready.specs.Ready.{commonRefusalOn, panelRefusalOn};
+ghost use Rattle.ready.specs.Inner.{soundEnd};
 use numbers::COUNT;
 use numbers::HEIGHT;
 use numbers::PANEL_LEN;
@@ -18,11 +19,39 @@ use numbers::STORE_LEN;
 use numbers::WIDTH;
 use sound::MAX_MEMORY;
 
-// Returns whether the numbers are a sound record.
-fn is_sound(numbers: &[u32]) -> bool
-    ensures { λ r. ⌜ r ≡ (isRecord (now (numbers .entry)) && isSound (view (now (numbers .entry)))) ⌝ }
+// Returns where the store's pixels end if the numbers are a record that is sound except for the memory sizes, else 0.
+pub fn sound_end(numbers: &[u32]) -> usize
+    ensures { λ r. ⌜ r ≡ soundEnd (now (numbers .entry)) ⌝ }
 {
     if !well_formed::is_head(numbers) {
+        return 0;
+    }
+    if !surface::is_side(numbers[WIDTH]) {
+        return 0;
+    }
+    if !surface::is_side(numbers[HEIGHT]) {
+        return 0;
+    }
+    let s = sound::scan_slots(numbers);
+    let end = s.end;
+    if end == 0 {
+        return 0;
+    }
+    if !handles_differ(numbers, s.ascending) {
+        return 0;
+    }
+    if !sound::is_positioned(numbers, SCREEN) {
+        return 0;
+    }
+    end
+}
+
+// Returns whether the numbers are a sound record.
+pub fn is_sound(numbers: &[u32]) -> bool
+    ensures { λ r. ⌜ r ≡ (isRecord (now (numbers .entry)) && isSound (view (now (numbers .entry)))) ⌝ }
+{
+    let end = sound_end(numbers);
+    if end == 0 {
         return false;
     }
     let panel_len = numbers[PANEL_LEN] as usize;
@@ -33,26 +62,9 @@ fn is_sound(numbers: &[u32]) -> bool
     if store_len > MAX_MEMORY {
         return false;
     }
-    if !surface::is_side(numbers[WIDTH]) {
-        return false;
-    }
-    if !surface::is_side(numbers[HEIGHT]) {
-        return false;
-    }
     let w = numbers[WIDTH] as usize;
     let h = numbers[HEIGHT] as usize;
     if 2 * (w * h) > panel_len {
-        return false;
-    }
-    let s = sound::scan_slots(numbers);
-    let end = s.end;
-    if end == 0 {
-        return false;
-    }
-    if !handles_differ(numbers, s.ascending) {
-        return false;
-    }
-    if !sound::is_positioned(numbers, SCREEN) {
         return false;
     }
     end <= store_len

@@ -34,7 +34,13 @@ pub const TEXT_TOO_LONG: u32 = 10;
 // A position is outside -32,768 to 32,767.
 pub const POSITION: u32 = 11;
 
-// 12 to 19 are kept for calls that are added later.
+// The bytes are not exactly one saved table.
+pub const TABLE: u32 = 12;
+
+// The output is shorter than the saved table.
+pub const OUTPUT_TOO_SHORT: u32 = 13;
+
+// 14 to 19 are kept for calls that are added later.
 
 // The numbers of a host's call are no call.
 pub const NO_CALL: u32 = 255;

@@ -10,7 +10,7 @@ use borrow.Author.Tests.{leb-true, lt-ltb}
 use Rattle.bigendian.specs.BigEndian.{be32}
 use Rattle.plan.specs.declared.Call.{Call}
 use Rattle.script.specs.declared.CallRead.{CallRead}
-use Rattle.script.specs.declared.CallRead.the-variants.{End, Bad, Look, Is}
+use Rattle.script.specs.declared.CallRead.the-variants.{End, Bad, Look, Is, Load, Save}
 use Rattle.script.specs.Script.{EndsWithin, Read, scriptCall, callAt}
 use Rattle.replay.specs.Calls.{CallBytes}
 
@@ -20,6 +20,8 @@ TextEnds at End = Unit
 TextEnds at Bad = Unit
 TextEnds at Look = Unit
 TextEnds at (Is c next) = (at + 17 ≤ next) × (next ≤ at + 140017)
+TextEnds at (Load start n) = Unit
+TextEnds at (Save n next) = Unit
 
 units-end :
     (at n : ℕ) (few there : Bool) (c : Call) → leb n 70000 ≡ few → TextEnds at (cond few (cond there (Is c (at + 1 + (16 + 2 * n))) Bad) Bad)
@@ -52,3 +54,11 @@ module _ {s : List ℕ} {g : Bool} {at next : ℕ} {r : CallRead} {c : Call} (h 
         inside = behind .1;
         text = λ k. subst (TextEnds at) (sym (h .same ∙ text-at s at g lt k) ∙ e) (text-ends s at);
       }
+
+-- a load's bytes, and a save, behind the byte of the call
+module _ {s : List ℕ} {g : Bool} {at : ℕ} {r : CallRead} (h : Read s g at r) where
+  pub load-within : {start n : ℕ} → r ≡ Load start n → (at < start) × (start + n ≤ length s)
+  load-within e = subst (EndsWithin s at) e (h .behind)
+
+  pub save-within : {n next : ℕ} → r ≡ Save n next → (at < next) × ((next ≤ length s) × (n ≤ 16384))
+  save-within e = subst (EndsWithin s at) e (h .behind)

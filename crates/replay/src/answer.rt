@@ -24,10 +24,11 @@ fn print(byte: u8, a: Answer, requests: bool) {
     }
 }
 
-// Whether the call of this byte has an answer: every one but pattern fill, rectangle, panel fill, resize, blit and line.
+// Whether the call of this byte has an answer: every one but pattern fill, rectangle, panel fill, resize, blit, line and
+// load.
 fn is_answered(byte: u8) -> bool {
     match byte {
-        0x0D | 0x0E | 0x10 | 0x11 | 0x12 | 0x14 => false,
+        0x0D | 0x0E | 0x10 | 0x11 | 0x12 | 0x14 | 0x15 => false,
         _ => true,
     }
 }

@@ -4,6 +4,7 @@ mod answer;
 mod object;
 mod session;
 mod state;
+mod table;
 
 ghost use Prim.Native.Nat.{_≤_};
 use harness::LONGEST;

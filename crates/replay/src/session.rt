@@ -1,6 +1,7 @@
 // A script's device from open to its end, on lent memories.
 use crate::answer;
 use crate::state;
+use crate::table;
 ghost use mathlib.Core.Path.{_≡_};
 ghost use Prim.Native.Nat.{_≤_};
 ghost use lib.ListN.{length};
@@ -47,9 +48,9 @@ fn run(s: &[u8], h: Header, picture: bool, device: &mut [u32], panel: &mut [u8],
     harness::fill(store, h.fill, 0);
     let refusal = open::open(device, panel, store, h.width, h.height);
     if picture {
-        write_picture(s, h.requests, refusal, device, panel, store);
+        write_picture(s, h, refusal, device, panel, store);
     } else {
-        print_lines(s, h.requests, refusal, device, panel, store);
+        print_lines(s, h, refusal, device, panel, store);
     }
 }
 
@@ -64,7 +65,7 @@ fn print_open(refusal: u32) {
 // Prints the line of open, the lines of the calls unless open was refused, and the state lines.
 fn print_lines(
     s: &[u8],
-    requests: bool,
+    h: Header,
     refusal: u32,
     device: &mut [u32],
     panel: &mut [u8],
@@ -74,17 +75,17 @@ fn print_lines(
 {
     print_open(refusal);
     if refusal != 0 {
-        state::print(device, panel, store, requests);
+        state::print(device, panel, store, h.requests);
         return;
     }
-    perform_all(s, requests, true, device, panel, store);
-    state::print(device, panel, store, requests);
+    perform_all(s, h, true, device, panel, store);
+    state::print(device, panel, store, h.requests);
 }
 
 // Writes the panel after the calls as a picture, or prints the line of open if it was refused.
 fn write_picture(
     s: &[u8],
-    requests: bool,
+    h: Header,
     refusal: u32,
     device: &mut [u32],
     panel: &mut [u8],
@@ -96,7 +97,7 @@ fn write_picture(
         print_open(refusal);
         return;
     }
-    perform_all(s, requests, false, device, panel, store);
+    perform_all(s, h, false, device, panel, store);
     write_panel(panel, device[numbers::WIDTH], device[numbers::HEIGHT]);
 }
 
@@ -115,7 +116,7 @@ fn write_panel(panel: &[u8], width: u32, height: u32) {
 // lines where a look asks for them.
 fn perform_all(
     s: &[u8],
-    requests: bool,
+    h: Header,
     shown: bool,
     device: &mut [u32],
     panel: &mut [u8],
@@ -126,15 +127,23 @@ fn perform_all(
     let mut units = [0u16; script::MAX_UNITS];
     let mut at = script::HEADER;
     while at < s.len() {
-        match script::read_call(s, requests, at) {
+        match script::read_call(s, h.requests, at) {
             CallRead::Look => {
-                state::show(device, panel, store, requests, shown);
+                state::show(device, panel, store, h.requests, shown);
                 at += 1;
             }
             CallRead::Is(call, next) => {
                 let n = take_units(s, at, next, &mut units);
                 let a = perform::perform(device, call, &units[0..n], panel, store);
-                answer::show(s[at], a, requests, shown);
+                answer::show(s[at], a, h.requests, shown);
+                at = next;
+            }
+            CallRead::Load(start, n) => {
+                table::perform_load(s, start, n, shown, device, panel, store);
+                at = start + n;
+            }
+            CallRead::Save(n, next) => {
+                table::perform_save(device, n, h.fill, shown);
                 at = next;
             }
             _ => {

@@ -15,8 +15,8 @@ use Rattle.arithmetic.proofs.Machine.{held32, stored32}
 use Rattle.bigendian.specs.BigEndian.{be32}
 use Rattle.plan.specs.declared.Call.{Call}
 use Rattle.script.specs.declared.CallRead.{CallRead}
-use Rattle.script.specs.declared.CallRead.the-variants.{Bad}
-use Rattle.script.specs.Script.{sized, scriptCall, requestCall, entryOf, EndsWithin}
+use Rattle.script.specs.declared.CallRead.the-variants.{Bad, Is, Load, Save}
+use Rattle.script.specs.Script.{whole, sized, scriptCall, requestCall, entryOf, EndsWithin}
 
 pub either-bad : (b : Bool) → cond b Bad Bad ≡ Bad
 either-bad true = refl
@@ -77,9 +77,16 @@ module _ (s : List ℕ) (p k : ℕ) where
       other n t = ne-eqb k n (λ e. omega (arith, leb-true n 18 t))
 
 -- a move or a line that is cut short
-pub request-cut : (s : List ℕ) (p k : ℕ) → length s < p + 12 → Bad ≡ requestCall k s p
+pub position-cut : (s : List ℕ) (p k : ℕ) → k ≤ 20 → length s < p + 12 → Bad ≡ requestCall k s p
 unfolding requestCall
-request-cut s p k h = rw (lt-leb (p + 12) (length s) h) (simp either-bad)
+position-cut s p k h cut =
+    rw (lt-leb (p + 12) (length s) cut, ne-eqb k 21 (λ e. omega arith), ne-eqb k 22 (λ e. omega arith)) (simp either-bad)
+
+-- a byte that begins no call of a change request
+pub no-request : (s : List ℕ) (p k : ℕ) → 22 < k → Bad ≡ requestCall k s p
+unfolding requestCall
+no-request s p k h =
+    rw (ne-eqb k 19 (λ e. omega arith), ne-eqb k 20 (λ e. omega arith), ne-eqb k 21 (λ e. omega arith), ne-eqb k 22 (λ e. omega arith))
 
 record Ends (s : List ℕ) (at : ℕ) (r : CallRead) : Type 0 where
   ends : EndsWithin s at r
@@ -90,12 +97,15 @@ module _ (s : List ℕ) (at : ℕ) where
   either true h i = h
   either false h i = i
 
-  sized-ends : (n : ℕ) (c : Call) → Ends s at (sized s (at + 1) n c)
-  sized-ends n c = by (decLe (at + 1 + n) (length s))
+  whole-ends : (n : ℕ) (r : CallRead) → (at + 1 + n ≤ length s → Ends s at r) → Ends s at (whole s (at + 1) n r)
+  whole-ends n r f = by (decLe (at + 1 + n) (length s))
     where
-      by : Dec (at + 1 + n ≤ length s) → Ends s at (sized s (at + 1) n c)
-      by (yes h) = rw (le-leb (at + 1 + n) (length s) h) (record { ends = (omega arith, h) })
+      by : Dec (at + 1 + n ≤ length s) → Ends s at (whole s (at + 1) n r)
+      by (yes h) = rw (le-leb (at + 1 + n) (length s) h) (f h)
       by (no h) = rw (lt-leb (at + 1 + n) (length s) (omega arith)) (record { ends = tt })
+
+  sized-ends : (n : ℕ) (c : Call) → Ends s at (sized s (at + 1) n c)
+  sized-ends n c = whole-ends n (Is c (at + 1 + n)) (λ h. record { ends = (omega arith, h) })
 
   call-ends : (k : ℕ) → Ends s at (scriptCall k s (at + 1))
   unfolding scriptCall
@@ -119,9 +129,23 @@ module _ (s : List ℕ) (at : ℕ) where
       either (eqb k 17) (sized-ends 8 _) (
       either (eqb k 18) (sized-ends 36 _) (record { ends = tt }))))))))))))))))))
 
+  -- an entry with at most 16,384 bytes
+  few-ends : (k′ : Bool) (n : ℕ) {x y : CallRead} → (n ≤ 16384 → Ends s at x) → Ends s at y → Ends s at (cond (k′ && leb n 16384) x y)
+  few-ends false n f h = h
+  few-ends true n {x} {y} f h = by (decLe n 16384)
+    where
+      by : Dec (n ≤ 16384) → Ends s at (cond (leb n 16384) x y)
+      by (yes le) = rw (le-leb n 16384 le) (f le)
+      by (no gt) = rw (lt-leb n 16384 (omega arith)) h
+
   request-ends : (k : ℕ) → Ends s at (requestCall k s (at + 1))
   unfolding requestCall
-  request-ends k = either (eqb k 19) (sized-ends 12 _) (either (eqb k 20) (sized-ends 12 _) (record { ends = tt }))
+  request-ends k =
+      let n = be32 s (at + 1) in
+      either (eqb k 19) (sized-ends 12 _) (
+      either (eqb k 20) (sized-ends 12 _) (
+      few-ends (eqb k 21) n (λ few. whole-ends (4 + n) (Load (at + 1 + 4) n) (λ h. record { ends = (omega arith, omega arith) })) (
+      few-ends (eqb k 22) n (λ few. whole-ends 4 (Save n (at + 1 + 4)) (λ h. record { ends = (omega arith, (h, few)) })) (record { ends = tt }))))
 
   pub entry-behind : (g : Bool) (k : ℕ) → EndsWithin s at (entryOf g k s (at + 1))
   entry-behind g k =

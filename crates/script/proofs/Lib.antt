@@ -1,4 +1,5 @@
 pub mod Calls
 pub mod Headers
+pub mod Tables
 pub mod Texts
 pub mod Units

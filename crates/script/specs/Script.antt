@@ -14,7 +14,7 @@ use Rattle.script.specs.declared.Header.{Header}
 use Rattle.script.specs.declared.HeaderRead.{HeaderRead}
 use Rattle.script.specs.declared.HeaderRead.the-variants.{Bad as BadHeader, Is as IsHeader}
 use Rattle.script.specs.declared.CallRead.{CallRead}
-use Rattle.script.specs.declared.CallRead.the-variants.{End, Bad, Look, Is}
+use Rattle.script.specs.declared.CallRead.the-variants.{End, Bad, Look, Is, Load, Save}
 
 -- behind the first four bytes: panel memory length, store length, panel width, panel height, fill byte
 abbrev pub headerIn : (requests : Bool) → List ℕ → Header
@@ -29,9 +29,13 @@ headerOf s =
     cond (eqb (be32 s 0) 0x47444932) (IsHeader (headerIn true s)) BadHeader))
     BadHeader
 
--- a call whose n bytes of arguments start at p; one that is cut short is bad
+-- an entry whose n bytes of arguments start at p; one that is cut short is bad
+abbrev pub whole : List ℕ → (p n : ℕ) → CallRead → CallRead
+whole s p n r = cond (leb (p + n) (length s)) r Bad
+
+-- a call whose n bytes of arguments start at p
 abbrev pub sized : List ℕ → (p n : ℕ) → Call → CallRead
-sized s p n c = cond (leb (p + n) (length s)) (Is c (p + n)) Bad
+sized s p n c = whole s p n (Is c (p + n))
 
 -- coordinates are signed
 abbrev pub pointAt : List ℕ → ℕ → Point
@@ -70,28 +74,34 @@ scriptCall k s p =
     cond (eqb k 18) (sized s p 36 (Blit (be32 s p) (areaAt s (p + 4)) (be32 s (p + 20)) (pointAt s (p + 24)) (be32 s (p + 32))))
     Bad)))))))))))))))))
 
--- the calls of change requests: a move or a line to a point
+-- The calls of change requests: a move or a line to a point; a load, whose bytes follow their number; a save, with the length of its
+-- output. A load's bytes and an output are at most 16,384.
 unfoldable pub requestCall : (k : ℕ) → List ℕ → (p : ℕ) → CallRead
 requestCall k s p =
     cond (eqb k 19) (sized s p 12 (MoveTo (be32 s p) (pointAt s (p + 4)))) (
-    cond (eqb k 20) (sized s p 12 (LineTo (be32 s p) (pointAt s (p + 4))))
-    Bad)
+    cond (eqb k 20) (sized s p 12 (LineTo (be32 s p) (pointAt s (p + 4)))) (
+    cond (eqb k 21 && leb (be32 s p) 16384) (whole s p (4 + be32 s p) (Load (p + 4) (be32 s p))) (
+    cond (eqb k 22 && leb (be32 s p) 16384) (whole s p 4 (Save (be32 s p) (p + 4)))
+    Bad)))
 
 -- The byte 7F is a look, which has no arguments and is no call on the device. Other bytes from 13 on are calls of change requests,
 -- which only some scripts have.
 abbrev pub entryOf : (requests : Bool) → (k : ℕ) → List ℕ → (p : ℕ) → CallRead
 entryOf g k s p = cond (eqb k 0x7F) Look (cond (ltb k 0x13) (scriptCall k s p) (cond g (requestCall k s p) Bad))
 
--- the entry at a byte of the script: the end, a look or a call
+-- the entry at a byte of the script: the end, a look, a call, a load or a save
 unfoldable pub callAt : List ℕ → (requests : Bool) → ℕ → CallRead
 callAt s g at = cond (ltb at (length s)) (entryOf g (getD s at 0) s (at + 1)) End
 
--- a call that was read ends after its start and within the script
+-- An entry that was read ends after its start and within the script: before `next`, or with the n bytes of a load. An output is at
+-- most 16,384 bytes.
 abbrev pub EndsWithin : List ℕ → ℕ → CallRead → Type 0
 EndsWithin s at End = Unit
 EndsWithin s at Bad = Unit
 EndsWithin s at Look = Unit
 EndsWithin s at (Is c next) = (at < next) × (next ≤ length s)
+EndsWithin s at (Load start n) = (at < start) × (start + n ≤ length s)
+EndsWithin s at (Save n next) = (at < next) × ((next ≤ length s) × (n ≤ 16384))
 
 pub record Read (s : List ℕ) (requests : Bool) (at : ℕ) (r : CallRead) : Type 0 where
   pub same : r ≡ callAt s requests at

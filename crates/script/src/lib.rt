@@ -22,6 +22,9 @@ pub const HEADER: usize = 21;
 // The most units that a text may have.
 pub const MAX_UNITS: usize = 70_000;
 
+// The most bytes that a load and the output of a save may have.
+pub const MAX_BYTES: usize = 16_384;
+
 pub struct Header {
     // Whether the script has the calls and fields of change requests.
     pub requests: bool,
@@ -43,12 +46,15 @@ pub const LOOK: u8 = 0x7F;
 // The first byte of a call of a change request.
 const FIRST_REQUEST: u8 = 0x13;
 
-// The entry at a byte of a script: the end, a bad entry, a look, or a call with the place of the byte after it.
+// The entry at a byte of a script: the end, a bad entry, a look, a call with the place of the byte after it, a load with the place
+// and the number of its bytes, or a save with the length of its output and the place of the byte after it.
 pub enum CallRead {
     End,
     Bad,
     Look,
     Is(Call, usize),
+    Load(usize, usize),
+    Save(usize, usize),
 }
 
 // The header of a script.
@@ -364,7 +370,8 @@ fn read_arguments(s: &[u8], k: u8, p: usize) -> CallRead
 }
 
 // The move or line of byte k, whose arguments start at p.
-fn read_request(s: &[u8], k: u8, p: usize) -> CallRead
+fn read_position(s: &[u8], k: u8, p: usize) -> CallRead
+    requires { ⌜ (19 ≤ k) × (k ≤ 20) ⌝ }
     requires { ⌜ p ≤ length (now s) ⌝ }
     ensures { λ r. ⌜ r ≡ requestCall k (now (s .entry)) p ⌝ }
 {
@@ -377,8 +384,43 @@ fn read_request(s: &[u8], k: u8, p: usize) -> CallRead
     if k == 19 {
         return CallRead::Is(Call::MoveTo { dc: dc, to: to }, p + 12);
     }
-    if k == 20 {
-        return CallRead::Is(Call::LineTo { dc: dc, to: to }, p + 12);
+    CallRead::Is(Call::LineTo { dc: dc, to: to }, p + 12)
+}
+
+// The load or save of byte k, whose arguments start at p.
+fn read_table(s: &[u8], k: u8, p: usize) -> CallRead
+    requires { ⌜ (21 ≤ k) × (k ≤ 22) ⌝ }
+    requires { ⌜ p ≤ length (now s) ⌝ }
+    ensures { λ r. ⌜ r ≡ requestCall k (now (s .entry)) p ⌝ }
+{
+    let left = s.len() - p;
+    if left < 4 {
+        return CallRead::Bad;
+    }
+    let n = bigendian::read_u32(s, p) as usize;
+    if n > MAX_BYTES {
+        return CallRead::Bad;
+    }
+    if k == 22 {
+        return CallRead::Save(n, p + 4);
+    }
+    if left - 4 < n {
+        return CallRead::Bad;
+    }
+    CallRead::Load(p + 4, n)
+}
+
+// The call of a change request of byte k, whose arguments start at p.
+fn read_request(s: &[u8], k: u8, p: usize) -> CallRead
+    requires { ⌜ 19 ≤ k ⌝ }
+    requires { ⌜ p ≤ length (now s) ⌝ }
+    ensures { λ r. ⌜ r ≡ requestCall k (now (s .entry)) p ⌝ }
+{
+    if k <= 20 {
+        return read_position(s, k, p);
+    }
+    if k <= 22 {
+        return read_table(s, k, p);
     }
     CallRead::Bad
 }

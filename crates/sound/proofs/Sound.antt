@@ -15,7 +15,7 @@ use Rattle.gdi.specs.declared.Slot.{Slot}
 use Rattle.gdi.specs.declared.GdiState.{GdiState}
 use Rattle.gdi.specs.Record.{noSlot, size, bytesOf}
 use Rattle.gdi.specs.Lookup.{slotAt, handleAt, objectAt}
-use Rattle.sound.specs.Sound.{limit, positioned, objectFits, slotFits, slotsFit, absent, distinct, startOf, used, isSound}
+use Rattle.sound.specs.Sound.{limit, positioned, objectFits, slotFits, slotsFit, absent, distinct, startOf, used, soundExceptSizes, isSound}
 use Rattle.sound.proofs.Bytes.{fits-below}
 
 -- the parts of soundness
@@ -52,6 +52,32 @@ parts b e =
       apart = search (and-l, and-r) depth 12;
       store = leb-true _ _ (search (and-l, and-r) depth 12);
     }
+
+-- the parts of soundness except for the memory sizes
+pub record ExceptSizes (b : GdiState) : Type 0 where
+  pub count : b .count ≤ 256
+  pub width : side (b .width) ≡ true
+  pub height : side (b .height) ≡ true
+  pub screen : positioned (b .screen) ≡ true
+  pub slots : slotsFit b ≡ true
+  pub apart : distinct (b .objects) (b .count) ≡ true
+
+pub parts-except : (b : GdiState) → soundExceptSizes b ≡ true → ExceptSizes b
+parts-except b e =
+    record {
+      count = leb-true _ _ (and-l _ _ e);
+      width = search (and-l, and-r) depth 12;
+      height = search (and-l, and-r) depth 12;
+      screen = search (and-l, and-r) depth 12;
+      slots = search (and-l, and-r) depth 12;
+      apart = search (and-l, and-r) depth 12;
+    }
+
+pub whole-except : (b : GdiState) → ExceptSizes b → soundExceptSizes b ≡ true
+whole-except b s = rw (le-leb _ _ (s .count), s .width, s .height, s .screen, s .slots, s .apart)
+
+pub except-of : {b : GdiState} → Sound b → ExceptSizes b
+except-of s = record { count = s .count; width = s .width; height = s .height; screen = s .screen; slots = s .slots; apart = s .apart }
 
 -- the last test, where the other parts hold
 pub sound-if-room : (b : GdiState) {at : ℕ} → b .«panel_len» ≤ limit → b .«store_len» ≤ limit → b .count ≤ 256

@@ -60,11 +60,16 @@ startOf b n = 2 + sumBelow n (λ i. bytesOf (objectAt b i))
 abbrev pub used : GdiState → ℕ
 used b = startOf b (b .count)
 
--- A record is sound if its lengths are at most the limit, its object count is at most 256, every created DC is a memory DC,
--- panel and bitmap sides are 1 to 4,096, handles differ and are neither 0 nor stock, 2·w·h fits the panel memory, 2 + the sum of
--- 2·w·h over created bitmaps fits the store, and positions, of the screen DC and of created DCs, are in their range.
+-- Sound except for the memory sizes: the object count is at most 256, every created DC is a memory DC, panel and bitmap sides are 1
+-- to 4,096, handles differ and are neither 0 nor stock, and positions, of the screen DC and of created DCs, are in their range.
+abbrev pub soundExceptSizes : GdiState → Bool
+soundExceptSizes b =
+    leb (b .count) 256 && (side (b .width) && (side (b .height) && (positioned (b .screen) && (slotsFit b && distinct (b .objects) (b .count)))))
+
+-- 2·w·h of the panel fits the panel memory, and 2 + the sum of 2·w·h over created bitmaps fits the store
+abbrev pub sizesFit : GdiState → Bool
+sizesFit b = leb (size (b .width) (b .height)) (b .«panel_len») && leb (used b) (b .«store_len»)
+
+-- A record is sound if the memories' lengths are at most the limit, it is sound except for the sizes, and the sizes fit.
 unfoldable pub isSound : GdiState → Bool
-isSound b =
-    leb (b .«panel_len») limit && (leb (b .«store_len») limit && (leb (b .count) 256
-    && (side (b .width) && (side (b .height) && (leb (size (b .width) (b .height)) (b .«panel_len»)
-    && (positioned (b .screen) && (slotsFit b && (distinct (b .objects) (b .count) && leb (used b) (b .«store_len»)))))))))
+isSound b = leb (b .«panel_len») limit && (leb (b .«store_len») limit && (soundExceptSizes b && sizesFit b))

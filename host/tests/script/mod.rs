@@ -16,6 +16,10 @@ pub fn path(of: &str) -> PathBuf {
 
 /// The byte of a look. It is not a call.
 const LOOK: u8 = 0x7F;
+/// The bytes of a load and a save, and the most bytes that they have.
+const LOAD: u8 = 0x15;
+const SAVE: u8 = 0x16;
+const MOST_BYTES: u32 = 16_384;
 
 /// The form of a script, by its first bytes. A `GDI1` script has the calls up to a
 /// blit, and its lines have no positions.
@@ -229,16 +233,67 @@ fn by_numbers(form: Form, call: u32, reply: &Reply) -> Option<String> {
     })
 }
 
-/// The state lines, which must be the same in both forms.
-fn looked_at(
-    form: Form,
-    device: &Device,
-    record: &Record,
-    panel: &[u8],
-    store: &[u8],
-) -> Vec<String> {
-    assert!(panel == device.panel() && store == device.store(), "the memories differ");
-    state(form, record, panel, store)
+/// A device, and a record with its own memories.
+struct Both {
+    device: Device,
+    record: Record,
+    panel: Box<[u8]>,
+    store: Box<[u8]>,
+    /// The byte that fills the memories and outputs.
+    fill: u8,
+}
+
+impl Both {
+    /// Performs the call that is next in a script, in both forms. Returns its line;
+    /// none if it is a bad call.
+    fn perform(&mut self, form: Form, script: &mut &[u8]) -> Option<String> {
+        let line = match *script {
+            [byte @ (LOAD | SAVE), rest @ ..] if form == Form::Gdi2 => {
+                let mut rest = rest;
+                let count = number(&mut rest).filter(|&n| n <= MOST_BYTES)? as usize;
+                let bytes = if *byte == LOAD { count } else { 0 };
+                let (bytes, rest) = rest.split_at_checked(bytes)?;
+                *script = rest;
+                let line = if *byte == LOAD { self.load(bytes) } else { self.save(count) };
+                format!("{byte:02x} {line}")
+            }
+            _ => {
+                let (host, units) = read(form, script)?;
+                let line = by_method(form, &mut self.device, &host, &units);
+                let reply = self.record.perform(&host, &units, &mut self.panel, &mut self.store);
+                assert_eq!(by_numbers(form, host.call, &reply), line, "{host:x?}");
+                format!("{:02x} {}", host.call, line?)
+            }
+        };
+        let numbers = self.device.record().as_numbers();
+        assert!(self.record.as_numbers() == numbers, "the numbers differ after {line}");
+        Some(line)
+    }
+
+    fn load(&mut self, bytes: &[u8]) -> String {
+        let answer = self.device.load(bytes);
+        assert_eq!(self.record.load(bytes, &mut self.panel, &mut self.store), answer);
+        drawn(answer)
+    }
+
+    /// The refusal, the table's length and the CRC of an output of this length.
+    fn save(&self, room: usize) -> String {
+        let mut out = vec![self.fill; room];
+        let answer = self.record.save_into(&mut out);
+        let table = self.device.save().expect("a device in a script is sound");
+        match answer {
+            Ok(length) => assert_eq!(out[..length], table),
+            Err(_) => assert!(room < table.len()),
+        }
+        line(answer, 0, |length| format!("{length} {:08x}", crc32(&out)))
+    }
+
+    /// The state lines, which must be the same in both forms.
+    fn look(&self, form: Form) -> Vec<String> {
+        let Both { device, record, panel, store, .. } = self;
+        assert!(**panel == *device.panel() && **store == *device.store(), "the memories differ");
+        state(form, record, panel, store)
+    }
 }
 
 /// The state lines of a record and its memories.
@@ -283,7 +338,7 @@ fn lines(script: &[u8]) -> (Vec<String>, usize) {
     let opened = record.open(width, height, &mut panel, &mut store);
     let device = Device::open_on(width, height, memory(panel_len), memory(store_len));
     let mut lines = vec![format!("open {}", drawn(opened))];
-    let mut device = match device {
+    let device = match device {
         Ok(device) => device,
         Err(refusal) => {
             assert_eq!(opened, Err(refusal));
@@ -291,29 +346,21 @@ fn lines(script: &[u8]) -> (Vec<String>, usize) {
             return (lines, 0);
         }
     };
-    let mut calls = 0;
+    let (mut both, mut calls) = (Both { device, record, panel, store, fill }, 0);
     while let Some((&first, behind)) = rest.split_first() {
         if first == LOOK {
-            lines.extend(looked_at(form, &device, &record, &panel, &store));
+            lines.extend(both.look(form));
             rest = behind;
             continue;
         }
-        let line = read(form, &mut rest).and_then(|(host, units)| {
-            let line = by_method(form, &mut device, &host, &units);
-            let reply = record.perform(&host, &units, &mut panel, &mut store);
-            assert_eq!(by_numbers(form, host.call, &reply), line, "{host:x?}");
-            let numbers = device.record().as_numbers();
-            assert!(record.as_numbers() == numbers, "the numbers differ after {host:x?}");
-            line.map(|line| format!("{:02x} {line}", host.call))
-        });
-        let Some(line) = line else {
+        let Some(line) = both.perform(form, &mut rest) else {
             lines.push("bad call".into());
             break;
         };
         lines.push(line);
         calls += 1;
     }
-    lines.extend(looked_at(form, &device, &record, &panel, &store));
+    lines.extend(both.look(form));
     (lines, calls)
 }
 

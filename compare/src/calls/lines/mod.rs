@@ -7,7 +7,7 @@ mod random;
 mod tally;
 
 pub use edges::scripts as edges;
-pub use random::script;
+pub use random::{script, Made};
 pub use tally::Lines;
 
 use std::collections::HashMap;
@@ -53,7 +53,7 @@ impl Positions {
     }
 
     /// Sets the position of a DC. Returns the old one.
-    fn set(&mut self, dc: u32, to: Point) -> Point {
+    pub fn set(&mut self, dc: u32, to: Point) -> Point {
         self.0.insert(dc, to).unwrap_or_default()
     }
 

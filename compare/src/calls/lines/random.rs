@@ -26,16 +26,11 @@ const MANY_BYTES: usize = 60_000;
 /// The script of a seed: mostly some hundred lines with the moves and other calls
 /// between them. It adds only the dropped calls to the tally.
 pub fn script(seed: u64, tally: &mut Tally) -> Vec<u8> {
-    let mut rng = Rng::new(seed);
-    let header = header(&mut rng);
-    let (_, device) = header.open();
-    let mut made = Made { rng, device, steps: Vec::new(), dropped: 0 };
-    made.surfaces();
+    let mut made = Made::begun(seed);
     for _ in 0..made.rng.between(200, 500) {
         made.step();
     }
-    tally.drop_some(made.dropped);
-    spoil(&mut made.rng, Form::Gdi2, header, &made.steps)
+    made.script(tally)
 }
 
 /// A header that opens, with a panel of any shape.
@@ -64,17 +59,34 @@ fn shape(rng: &mut Rng) -> [u32; 2] {
 }
 
 /// A script that is being made, and the device after its steps.
-struct Made {
-    rng: Rng,
-    device: Device,
-    steps: Vec<Step>,
+pub struct Made {
+    pub rng: Rng,
+    header: Header,
+    pub device: Device,
+    pub steps: Vec<Step>,
     dropped: u64,
 }
 
 impl Made {
+    /// The beginning of a seed's script: a header that opens, and surfaces to draw on.
+    pub fn begun(seed: u64) -> Self {
+        let mut rng = Rng::new(seed);
+        let header = header(&mut rng);
+        let (_, device) = header.open();
+        let mut made = Self { rng, header, device, steps: Vec::new(), dropped: 0 };
+        made.surfaces();
+        made
+    }
+
+    /// The whole script, sometimes with an error.
+    pub fn script(mut self, tally: &mut Tally) -> Vec<u8> {
+        tally.drop_some(self.dropped);
+        spoil(&mut self.rng, Form::Gdi2, self.header, &self.steps)
+    }
+
     /// Performs a call and adds it. A call in which a sum of the original overflows is
     /// dropped.
-    fn add(&mut self, call: Call) {
+    pub fn add(&mut self, call: Call) {
         match self.device.perform(&call) {
             Ok(_) => self.steps.push(call.into()),
             Err(Overflow) => self.dropped += 1,
@@ -113,8 +125,14 @@ impl Made {
         }
     }
 
+    /// Adds a call of a `GDI1` script.
+    pub fn call(&mut self) {
+        let call = random::call(&mut self.rng, &self.device, GOAL);
+        self.add(call);
+    }
+
     /// Adds a line, a move, a pen or another call, and sometimes a look.
-    fn step(&mut self) {
+    pub fn step(&mut self) {
         match self.rng.below(32) {
             0..=19 => {
                 let dc = with_surface(&mut self.rng, &self.device);
@@ -132,10 +150,7 @@ impl Made {
                 let dc = with_surface(&mut self.rng, &self.device);
                 self.pen(dc);
             }
-            _ => {
-                let call = random::call(&mut self.rng, &self.device, GOAL);
-                self.add(call);
-            }
+            _ => self.call(),
         }
         let bytes = self.device.panel_len() + self.device.store_len();
         let calls = CALLS_PER_LOOK * (1 + bytes / MANY_BYTES);

@@ -10,7 +10,7 @@ use Rattle.ready.proofs.Ready.{Lent, store-lent, panel-lent, record-lent}
 use Rattle.paint.specs.Memories.{Memories, memories}
 use Rattle.plan.specs.declared.Call.{Call}
 use Rattle.plan.specs.Answer.{Parts}
-use Rattle.plan.specs.Calls.{act}
+use Rattle.plan.specs.Calls.{act, call as asked}
 use Rattle.plan.specs.Followed.{Followed, Performed}
 use Rattle.perform.proofs.Performed.{refused-all, is-lent, performed}
 use borrow.Author.Needs.{needs}
@@ -36,7 +36,7 @@ module _ (i : tie.Else1) where
 
   made : {v : Call} → s .args .call ≡ v → {a : Parts} {l′ : List ℕ} {ms′ : Memories}
       → Followed (act v (now (s .args .units)) (view (now (s .args .numbers)))) (now (s .args .numbers)) ms a l′ ms′
-      → Performed (s .args .call) (now (s .args .units)) (now (s .args .numbers)) ms a l′ ms′
+      → Performed (asked (s .args .call) (now (s .args .units))) (now (s .args .numbers)) ms a l′ ms′
   made e f = performed (s .args .call) (now (s .args .units)) (now (s .args .numbers)) ms (i .before .common-refusal .ensures) (i .if1 .left) e f
 
 create-memory-dc-requires : tie.Need-create-memory-dc-requires

@@ -5,17 +5,17 @@ use native.Mathlib.Omega.{arith}
 use lib.ListN.{length}
 use borrow.Author.Needs.{needs}
 use Rattle.arithmetic.proofs.Arrays.{zeros}
-use Rattle.replay.proofs.Calls.{ahead, call-bytes}
+use Rattle.replay.proofs.Calls.{ahead, call-bytes, load-within, save-within}
 use Rattle.replay.proofs.session.perform_all.Statement.{statement}
 use Rattle.replay.proofs.session.perform_all.Tie as tie
 
 abbrev Inv-loop : tie.InvT-loop
-Inv-loop s requests shown device₀ panel₀ store₀ units₀ at₀ device panel store units at =
+Inv-loop s h shown device₀ panel₀ store₀ units₀ at₀ device panel store units at =
     (length device ≡ length device₀)
     × ((length panel ≡ length panel₀) × ((length store ≡ length store₀) × (length units ≡ 70000)))
 
 abbrev μ-loop : tie.MeasureT-loop
-μ-loop s requests shown device₀ panel₀ store₀ units₀ at₀ device panel store units at = length s - at
+μ-loop s h shown device₀ panel₀ store₀ units₀ at₀ device panel store units at = length s - at
 
 loop-holds : tie.Need-loop-holds Inv-loop μ-loop
 loop-holds c = (refl, (refl, (refl, sym (zeros 70000))))
@@ -86,6 +86,49 @@ loop-again-2 c =
       ),
     )
 
+enum-known-start : tie.Need-enum-known-start Inv-loop μ-loop
+enum-known-start c = search needs
+
+perform-load-requires : tie.Need-perform-load-requires Inv-loop μ-loop
+perform-load-requires c κs = load-within (c .before .before .before .before .before .before .read-call .ensures) (c .before .before .before .before .start .given .1) .1
+
+add-at-2 : tie.Need-add-at-2 Inv-loop μ-loop
+add-at-2 c =
+    let told = c .before .before .before .before .before .before .before .before .before .before .before in
+    let within = load-within (told .before .before .read-call .ensures) (told .start .given .1) in
+    omega (arith, within)
+
+loop-less-3 : tie.Need-loop-less-3 Inv-loop μ-loop
+loop-less-3 c =
+    let told = c .before .before .before .before .before .before .before .before .before .before .before in
+    let within = load-within (told .before .before .read-call .ensures) (told .start .given .1) in
+    omega (arith, within, told .before .before .before .loop-test .taken)
+
+loop-again-3 : tie.Need-loop-again-3 Inv-loop μ-loop
+loop-again-3 c =
+    let done = c .before .before .before .before .before .before in
+    let held = done .before .before .before .before .before .before .before .before .before .loop .inv in (
+      done .perform-load .kept .1 .1 .1 .1 .0 ∙ held .0,
+      (
+        done .perform-load .kept .1 .1 .1 .1 .1 .0 ∙ held .1 .0,
+        (done .perform-load .kept .1 .1 .1 .1 .1 .1 .0 ∙ held .1 .1 .0, held .1 .1 .1),
+      ),
+    )
+
+enum-known-n : tie.Need-enum-known-n Inv-loop μ-loop
+enum-known-n c = search needs
+
+perform-save-requires : tie.Need-perform-save-requires Inv-loop μ-loop
+perform-save-requires c κs = save-within (c .before .before .before .before .read-call .ensures) (c .before .before .n .given .1) .1 .1
+
+loop-less-4 : tie.Need-loop-less-4 Inv-loop μ-loop
+loop-less-4 c =
+    let told = c .before .before .before in
+    omega (arith, save-within (told .before .before .read-call .ensures) (told .n .given .1), told .before .before .before .loop-test .taken)
+
+loop-again-4 : tie.Need-loop-again-4 Inv-loop μ-loop
+loop-again-4 c = c .before .before .before .before .before .before .before .loop .inv
+
 show-bad-call-requires : tie.Need-show-bad-call-requires Inv-loop μ-loop
 show-bad-call-requires c κs = search needs
 
@@ -137,6 +180,15 @@ perform-all-spec =
     show-requires-2
     loop-less-2
     loop-again-2
+    enum-known-start
+    perform-load-requires
+    add-at-2
+    loop-less-3
+    loop-again-3
+    enum-known-n
+    perform-save-requires
+    loop-less-4
+    loop-again-4
     show-bad-call-requires
     same-length
     same-length-2

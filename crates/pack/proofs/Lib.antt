@@ -1,0 +1,4 @@
+pub mod Puts
+pub mod Lengths
+pub mod Values
+pub mod Table
