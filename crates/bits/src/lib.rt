@@ -5,7 +5,7 @@ ghost use Prim.Native.Nat.{_+_, _*_, _%_, _≤_, _<_, _^_};
 ghost use lib.ListN.{length, drop};
 ghost use Rattle.words.specs.Parts.{part, withPart};
 ghost use Rattle.bits.specs.Bits.{field, fields, numberOf, numbersIn, bitsOf, filling, total, equal};
-ghost use Rattle.bits.specs.Inner.{Within, AllWithin};
+ghost use Rattle.bits.specs.Inner.{FieldFits, FieldsFit};
 
 // Returns the n low bits of v.
 fn low_bits(v: u32, n: u32) -> u32
@@ -45,7 +45,7 @@ fn put_bits(out: &mut [u8], at: usize, n: u32, v: u32)
 
 // Returns the number in the n bits from `at` on.
 pub fn field_at(s: &[u8], at: usize, n: u32) -> u32
-    requires { ⌜ Within (now s) at n ⌝ }
+    requires { ⌜ FieldFits (now s) at n ⌝ }
     ensures { λ r. ⌜ r ≡ numberOf (part (bitsOf (now (s .entry))) at n) ⌝ }
 {
     let mut r: u32 = 0;
@@ -61,7 +61,7 @@ pub fn field_at(s: &[u8], at: usize, n: u32) -> u32
 
 // Puts the n low bits of v into the n bits from `at` on.
 pub fn put_field(out: &mut [u8], at: usize, n: u32, v: u32)
-    requires { ⌜ Within (now out) at n ⌝ }
+    requires { ⌜ FieldFits (now out) at n ⌝ }
     ensures { λ _. ⌜ bitsOf (now (out .exit)) ≡ withPart (bitsOf (now (out .entry))) at n (field n v) ⌝ }
 {
     let mut p = at;
@@ -84,7 +84,7 @@ pub fn fill_byte(out: &mut [u8], at: usize)
 
 // Writes the values one behind the other, each in so many bits, from bit `at` on.
 pub fn put_fields(out: &mut [u8], at: usize, widths: &[u32], values: &[u32])
-    requires { ⌜ AllWithin (now out) at (now widths) ⌝ }
+    requires { ⌜ FieldsFit (now out) at (now widths) ⌝ }
     requires { ⌜ length (now widths) ≤ length (now values) ⌝ }
     ensures { λ _. ⌜ bitsOf (now (out .exit)) ≡ withPart (bitsOf (now (out .entry))) at (total (now (widths .entry))) (fields (now (widths .entry)) (now (values .entry))) ⌝ }
 {
@@ -100,7 +100,7 @@ pub fn put_fields(out: &mut [u8], at: usize, widths: &[u32], values: &[u32])
 
 // Reads fields of these widths, from bit `at` on, into the front of `values`; the rest of `values` is kept.
 pub fn read_fields(s: &[u8], at: usize, widths: &[u32], values: &mut [u32])
-    requires { ⌜ AllWithin (now s) at (now widths) ⌝ }
+    requires { ⌜ FieldsFit (now s) at (now widths) ⌝ }
     requires { ⌜ length (now widths) ≤ length (now values) ⌝ }
     ensures { λ _. ⌜ now (values .exit) ≡ numbersIn (now (widths .entry)) (bitsOf (now (s .entry))) at ++ drop (length (now (widths .entry))) (now (values .entry)) ⌝ }
 {

@@ -18,7 +18,7 @@ use Rattle.clip.specs.declared.Span.{Span}
 use Rattle.clip_blit.specs.declared.BlitSpan.{BlitSpan}
 use Rattle.clip_blit.specs.declared.BlitRect.{BlitRect}
 use Rattle.clip.specs.Clip.{nearest, covers, clippedAxis}
-use Rattle.clip_blit.specs.Blit.{sourceAt, inside, drawnAlong, drawnAt, shifted, placed, nothing, blitAxis, blitRect}
+use Rattle.clip_blit.specs.Blit.{sourceAt, inside, drawnAlong, drawnAt, shifted, onDestination, nothing, blitAxis, blitRect}
 use Rattle.clip.proofs.Clip.{clip-covers, clip-within}
 
 -- The interval b lies on the destination and its source on the source; it holds the drawn coordinates, each with its own source.
@@ -95,7 +95,7 @@ module _ (d s w : ℤ) (dst-side src-side : ℕ) where
   source = clippedAxis s w src-side
 
   abbrev on : Span
-  on = placed d s source dst-side
+  on = onDestination d s source dst-side
 
   on-exact : (i : ℕ) → i < dst-side → between (on .from) (on .to) i ≡ drawnAlong d s w src-side i
   on-exact i h =

@@ -31,8 +31,8 @@ abbrev pub shifted : ℤ → ℤ → Span → ℤ
 shifted d s cut = d +ℤ (pos (cut .from) -ℤ s)
 
 -- the clipped source at its place on the destination, clipped again to the destination
-abbrev pub placed : ℤ → ℤ → Span → ℕ → Span
-placed d s cut dst-side = clippedAxis (shifted d s cut) (pos (cut .to) -ℤ pos (cut .from)) dst-side
+abbrev pub onDestination : ℤ → ℤ → Span → ℕ → Span
+onDestination d s cut dst-side = clippedAxis (shifted d s cut) (pos (cut .to) -ℤ pos (cut .from)) dst-side
 
 -- an empty interval
 abbrev pub nothing : BlitSpan
@@ -42,7 +42,7 @@ nothing = record { from = 0; to = 0; src = 0 }
 unfoldable pub blitAxis : (d s w : ℤ) → (dst-side src-side : ℕ) → BlitSpan
 blitAxis d s w dst-side src-side =
     let cut = clippedAxis s w src-side in
-    let on = placed d s cut dst-side in
+    let on = onDestination d s cut dst-side in
     cond (ltb (on .from) (on .to))
     (record { from = on .from; to = on .to; src = positive (pos (cut .from) +ℤ (pos (on .from) -ℤ shifted d s cut)) })
     nothing

@@ -17,7 +17,7 @@ use Rattle.paint.specs.Memories.{Memories}
 use Rattle.paint.specs.Paint.{Paint, after}
 use Rattle.plan.specs.Answer.{Parts, refused, none as no-object, origin}
 use Rattle.plan.specs.Plan.{Plan, refuse}
-use Rattle.plan.specs.Load.{load as loadTable}
+use Rattle.plan.specs.Load.{loadTable}
 use Rattle.plan.specs.Calls.{act, Invocation, call, load, save, whenReady, plan, planOn}
 use Rattle.plan.specs.Followed.{Followed, Performed}
 use Rattle.plan.proofs.Cases.{save-by}

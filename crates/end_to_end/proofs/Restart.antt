@@ -30,7 +30,7 @@ use Rattle.place.specs.declared.SurfaceId.the-variants.{Panel}
 use Rattle.dirty.specs.Dirty.{nextFrame, dirtied}
 use Rattle.plan.specs.Answer.{Parts, saved as savedParts}
 use Rattle.plan.specs.Plan.{Plan, refuse}
-use Rattle.plan.specs.Load.{loaded, load as loadTable}
+use Rattle.plan.specs.Load.{loaded, loadTable}
 use Rattle.plan.specs.Calls.{Invocation, load, plan, planOn}
 use Rattle.plan.specs.Followed.{Performed}
 use Rattle.plan.specs.Open.{Opened}
@@ -43,7 +43,7 @@ use Rattle.save.specs.declared.Saving.{Saving}
 use Rattle.save.specs.Save.{saveAnswer, Saved}
 use Rattle.save.proofs.Answers.{accepted, if-accepted}
 use Rattle.end_to_end.specs.Lists.{FlatDevice, deviceOf, refusesAllOn, Words32, Entry, throughPerform, throughHost, callsOf}
-use Rattle.end_to_end.specs.Restart.{Restarts, StaysRestorable}
+use Rattle.end_to_end.specs.Restart.{Restarts, SessionsRestorable}
 use Rattle.end_to_end.proofs.Entries.{Lawful, served-record, perform-lawful, host-lawful}
 use Rattle.end_to_end.proofs.Lists.{made-makes}
 
@@ -195,7 +195,7 @@ misfit-number : {w h : ℕ} {s t : FlatDevice} → Opened w h (s .numbers) (s .m
 misfit-number {s = s} o ne = o .answer ∙ rw (ne-eqb (length (s .numbers)) recordSize ne)
 
 module _ (e : Entry) (law : Lawful e) where
-  session-restorable : StaysRestorable e
+  session-restorable : SessionsRestorable e
   session-restorable w h cs s t rs x = by (ℕ-discrete (length (s .numbers)) recordSize)
     where
       after-open : length (s .numbers) ≡ recordSize → Restorable (view (t .numbers))
@@ -209,8 +209,8 @@ module _ (e : Entry) (law : Lawful e) where
       by (yes long) = after-open long
       by (no ne) = absurd (omega (arith, misfit-number (x .opened) ne))
 
-pub perform-restorable : StaysRestorable throughPerform
+pub perform-restorable : SessionsRestorable throughPerform
 perform-restorable = session-restorable throughPerform perform-lawful
 
-pub host-restorable : StaysRestorable throughHost
+pub host-restorable : SessionsRestorable throughHost
 host-restorable = session-restorable throughHost host-lawful

@@ -32,5 +32,5 @@ pub record Restarts : Type 0 where
       × (a .number ≡ 0 → view (t .numbers) ≡ dirtied (restored (view (d .numbers)) (view (s .numbers))) Panel)
 
 -- From open on, after every list of calls, loads and saves, the screen DC is the screen's, and slots past the count are vacant.
-abbrev pub StaysRestorable : Entry → Type 0
-StaysRestorable e = (w h : ℕ) (cs : List (e .Argument)) (s t : FlatDevice) (rs : List (e .Answer)) → Session e w h cs s 0 rs t → Restorable (view (t .numbers))
+abbrev pub SessionsRestorable : Entry → Type 0
+SessionsRestorable e = (w h : ℕ) (cs : List (e .Argument)) (s t : FlatDevice) (rs : List (e .Answer)) → Session e w h cs s 0 rs t → Restorable (view (t .numbers))

@@ -30,8 +30,8 @@ use Rattle.paint.specs.Paint.{blank, only, created, paintedBy, after}
 use Rattle.paint.specs.Taint.{Taint, taintedBy, tainted}
 use Rattle.plan.specs.Answer.{done, saved}
 use Rattle.plan.specs.Plan.{recordOnly, refuse}
-use Rattle.plan.specs.Load.{load as loadTable}
-use Rattle.plan.specs.Save.{save as saveTable}
+use Rattle.plan.specs.Load.{loadTable}
+use Rattle.plan.specs.Save.{saveTable}
 use Rattle.plan.specs.Calls.{load, save, plan}
 use Rattle.noninterference.specs.Claim.{taintAfter}
 use Rattle.noninterference.specs.Taint.{taintFor}
@@ -164,13 +164,13 @@ refusals =
     }
 
 -- saving the fresh device's table, into 54 bytes and into 53; it takes no memory, so lengths do not count
-pub record Saves : Type 0 where
+pub record SavesFresh : Type 0 where
   pub fits : plan (save 54) opened 0 0 ≡ recordOnly opened (saved openedTable)
   pub output-short : plan (save 53) opened 0 0 ≡ refuse 13 opened
 
-pub saves : Saves
+pub saves-fresh : SavesFresh
 unfolding plan isSound isStock sumBelow saveTable tableBits fields field slotsBits bytesIn numberOf
-saves = record { fits = refl; output-short = refl }
+saves-fresh = record { fits = refl; output-short = refl }
 
 abbrev loadedTaint : Taint → Taint
 loadedTaint m = taintFor spare 6 20 [] m (load fiveTable)

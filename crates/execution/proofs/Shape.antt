@@ -53,7 +53,7 @@ use Rattle.plan.specs.Delete.{deletionAt, deletionOf}
 use Rattle.plan.specs.Drawing.{packedOf, blitted, blit}
 use Rattle.plan.specs.Panel.{panelFillStroke, resized}
 use Rattle.plan.specs.Lines.{movedTo}
-use Rattle.plan.specs.Load.{loaded, load as loadTable}
+use Rattle.plan.specs.Load.{loaded, loadTable}
 use Rattle.plan.specs.Calls.{act, Invocation, call, load, save, whenReady, plan}
 use Rattle.plan.proofs.Cases.{pattern-fill-by, rectangle-by, text-by, move-by, line-by, blit-by, resize-by, load-by, save-by}
 use Rattle.plan.proofs.Create.{bitmap-fits}

@@ -21,7 +21,7 @@ use Rattle.surface.proofs.Rows.{column-lt, row-lt, row-fits}
 use Rattle.line.specs.declared.Axis.{Axis}
 use Rattle.line.specs.Line.{extent, steps, line, lineMarks}
 use Rattle.line.specs.Pixel.{OnLine, flat, steep}
-use Rattle.line.specs.Inner.{Seen, isShown, dots, Room}
+use Rattle.line.specs.Inner.{Seen, isShown, dots, StepsFit}
 use Rattle.line.proofs.Steps.{is-step, step-of, dots-steps, mark-pixel, pixel-mark}
 
 module _ (x0 y0 x1 y1 : ℤ) where
@@ -93,8 +93,8 @@ module _ {W H : ℕ} (m : List ℕ) (o : InOrder W H (length m)) where
   module _ {x0 y0 x1 y1 : ℤ} {a b : ℕ} (isA : a ≡ extent x0 x1) (isB : b ≡ extent y0 y1) {columns rows : Axis} where
     -- a pixel for each column
     module _ (most : b ≤ a) (small : a < 65536) (across : Seen x0 x1 a W columns) (down : Seen y0 y1 (b + 1) H rows) where
-      pub flat-room : Room 1 W columns rows a b (length m)
-      flat-room = record {
+      pub flat-steps-fit : StepsFit 1 W columns rows a b (length m)
+      flat-steps-fit = record {
         few = across .few;
         less = most;
         small = small;
@@ -118,8 +118,8 @@ module _ {W H : ℕ} (m : List ℕ) (o : InOrder W H (length m)) where
 
     -- a pixel for each row
     module _ (most : a < b) (small : b < 65536) (down : Seen y0 y1 b H rows) (across : Seen x0 x1 (a + 1) W columns) where
-      pub steep-room : Room W 1 rows columns b a (length m)
-      steep-room = record {
+      pub steep-steps-fit : StepsFit W 1 rows columns b a (length m)
+      steep-steps-fit = record {
         few = down .few;
         less = omega arith;
         small = small;

@@ -62,7 +62,7 @@ abbrev pub dots : (u-stride v-stride : ℕ) → (u v : Axis) → (a b n : ℕ) �
 dots u-stride v-stride u v a b n j = anyBelow n (λ i. isShown u v a b i && eqb j (wordAt u-stride v-stride u v i (along a b i)))
 
 -- the steps of a line on two axes lie in a memory of len bytes
-pub record Room (u-stride v-stride : ℕ) (u v : Axis) (a b len : ℕ) : Type 0 where
+pub record StepsFit (u-stride v-stride : ℕ) (u v : Axis) (a b len : ℕ) : Type 0 where
   pub few : u .end ≤ a
   pub less : b ≤ a
   pub small : a < 65536

@@ -8,7 +8,7 @@ ghost use Rattle.words.specs.Words.{painted};
 ghost use Rattle.surface.specs.Region.{wordsOf};
 ghost use Rattle.surface.proofs.Accepted.{InOrder};
 ghost use Rattle.line.specs.Line.{extent, line, lineMarks};
-ghost use Rattle.line.specs.Inner.{coordinateOf, OnAxis, visibleOf, Ranged, Seen, Carried, wordAt, isShown, dots, Room};
+ghost use Rattle.line.specs.Inner.{coordinateOf, OnAxis, visibleOf, Ranged, Seen, Carried, wordAt, isShown, dots, StepsFit};
 
 // One axis of a line on a side: steps begin .. end lie on it, the first of them at the coordinate first and the others up or down
 // from there.
@@ -111,7 +111,7 @@ fn draw_steps(
     b: usize,
     color: u16,
 ) -> bool
-    requires { ⌜ Room «u_stride» «v_stride» u v a b (length (now pixels)) ⌝ }
+    requires { ⌜ StepsFit «u_stride» «v_stride» u v a b (length (now pixels)) ⌝ }
     ensures { λ r. ⌜ r ≡ anyBelow (u .end) (isShown u v a b) ⌝ }
     ensures bytes { λ _. ⌜ now (pixels .exit) ≡ painted (dots «u_stride» «v_stride» u v a b (u .end)) (λ _. color) (now (pixels .entry)) ⌝ }
 {

@@ -21,15 +21,15 @@ use Rattle.paint.specs.Memories.{memories}
 use Rattle.paint.specs.Paint.{paintedBy, after}
 use Rattle.plan.specs.Answer.{done}
 use Rattle.plan.specs.Plan.{Plan, refuse}
-use Rattle.plan.specs.Load.{loaded, load}
+use Rattle.plan.specs.Load.{loaded, loadTable}
 use Rattle.plan.specs.Followed.{Followed}
 use Rattle.plan.proofs.Followed.{acceptance, updated-twice}
 use Rattle.load.specs.declared.Sizes.{Sizes}
 use Rattle.load.specs.Inner.{SizesIn}
 
 module _ (l bytes : List ℕ) {n k : ℕ} (lent : Lent l n k) {s : Sizes} (sizes : SizesIn bytes s) where
-  pub not-table : s .end ≡ 0 → load (view l) bytes ≡ refuse 12 (view l)
-  unfolding load
+  pub not-table : s .end ≡ 0 → loadTable (view l) bytes ≡ refuse 12 (view l)
+  unfolding loadTable
   not-table z = rw (by (isTable (view l) bytes) (sizes .end (view l)))
     where
       by : (t : Bool) → s .end ≡ cond t (used (heldBy (view l) bytes)) 0 → t ≡ false
@@ -65,23 +65,23 @@ module _ (l bytes : List ℕ) {n k : ℕ} (lent : Lent l n k) {s : Sizes} (sizes
     abbrev b : GdiState
     b = heldBy (view l) bytes
 
-    by-sizes : {t : Bool} → sizesFit (heldBy (view l) bytes) ≡ t → load (view l) bytes ≡ cond t (loaded (heldBy (view l) bytes)) (refuse 7 (view l))
-    unfolding load
+    by-sizes : {t : Bool} → sizesFit (heldBy (view l) bytes) ≡ t → loadTable (view l) bytes ≡ cond t (loaded (heldBy (view l) bytes)) (refuse 7 (view l))
+    unfolding loadTable
     by-sizes e = rw (is-table, e)
 
-    pub short-panel : n < s .panel → load (view l) bytes ≡ refuse 7 (view l)
+    pub short-panel : n < s .panel → loadTable (view l) bytes ≡ refuse 7 (view l)
     short-panel lt = by-sizes (not-left (leb (used b) (b .«store_len»)) (lt-leb (size (b .width) (b .height)) (b .«panel_len») (omega (arith, panel-so, panel-len))))
 
-    pub short-store : k < s .end → load (view l) bytes ≡ refuse 7 (view l)
+    pub short-store : k < s .end → loadTable (view l) bytes ≡ refuse 7 (view l)
     short-store lt = by-sizes (not-right (leb (size (b .width) (b .height)) (b .«panel_len»)) (lt-leb (used b) (b .«store_len») (omega (arith, end-so, store-len))))
 
     module _ (wide : s .panel ≤ n) (long : s .end ≤ k) where
-      accepted : load (view l) bytes ≡ loaded (heldBy (view l) bytes)
+      accepted : loadTable (view l) bytes ≡ loaded (heldBy (view l) bytes)
       accepted = by-sizes (together (le-leb (size (b .width) (b .height)) (b .«panel_len») (omega (arith, panel-so, panel-len)))
           (le-leb (used b) (b .«store_len») (omega (arith, end-so, store-len))))
 
       pub table-loaded : {l₁ l′ panel panel′ store store′ : List ℕ} → panel′ ≡ blanked panel 0 (s .panel) → store′ ≡ blanked store 2 (k - 2)
-          → Updated l (heldBy (view l) bytes) l₁ → Updated l₁ (dirtied (view l₁) Panel) l′ → Followed (load (view l) bytes) l (memories panel store) done l′ (memories panel′ store′)
+          → Updated l (heldBy (view l) bytes) l₁ → Updated l₁ (dirtied (view l₁) Panel) l′ → Followed (loadTable (view l) bytes) l (memories panel store) done l′ (memories panel′ store′)
       unfolding after paintedBy
       table-loaded {l₁} {l′} {panel} {panel′} {store} {store′} p q read mark =
           acceptance refl (ap (λ (x : Plan). x .outcome) accepted)

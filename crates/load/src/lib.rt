@@ -7,7 +7,7 @@ ghost use Rattle.numbers.specs.View.{view, isRecord};
 ghost use Rattle.saved_table.specs.Table.{savedTable};
 ghost use Rattle.ready.proofs.Ready.{Lent};
 ghost use Rattle.plan.specs.Answer.{partsOf};
-ghost use Rattle.plan.specs.Load.{load as loadPlan};
+ghost use Rattle.plan.specs.Load.{loadTable};
 ghost use Rattle.plan.specs.Calls.{load as asked};
 ghost use Rattle.plan.specs.Followed.{Followed, Performed, OnBoth};
 ghost use Rattle.load.specs.Inner.{SizesIn};
@@ -34,7 +34,7 @@ pub fn load(numbers: &mut [u32], bytes: &[u8], panel: &mut [u8], store: &mut [u8
 // The same on a ready device.
 fn load_ready(numbers: &mut [u32], bytes: &[u8], panel: &mut [u8], store: &mut [u8]) -> Answer
     requires { ⌜ Lent (now numbers) (length (now panel)) (length (now store)) ⌝ }
-    ensures { λ r. ⌜ OnBoth (λ n. Followed (loadPlan (view n) (now (bytes .entry))) n) numbers panel store (partsOf r) ⌝ }
+    ensures { λ r. ⌜ OnBoth (λ n. Followed (loadTable (view n) (now (bytes .entry))) n) numbers panel store (partsOf r) ⌝ }
 {
     let sizes = sizes_in(bytes);
     let end = sizes.end;

@@ -41,9 +41,9 @@ use Rattle.plan.specs.Delete.{deletionAt, deletionOf}
 use Rattle.plan.specs.Drawing.{patterned, boxOf, rimOf, patternFillOn, patternFill, rectangleOn, rectangle, textOn, text, blitBox, blitted, blitOn, blit}
 use Rattle.plan.specs.Panel.{noEffect, resized, resize}
 use Rattle.plan.specs.Lines.{positionOf, unlessFar, lineOf, lineOn, lineTo}
-use Rattle.plan.specs.Load.{loaded, load as loadTable}
+use Rattle.plan.specs.Load.{loaded, loadTable}
 use Rattle.plan.specs.Calls.{act, Invocation, call, load as loadOf, save as saveInto, plan}
-use Rattle.plan.specs.Refusal.{numberOf}
+use Rattle.plan.specs.Refusal.{refusalNumber}
 use Rattle.plan.proofs.Refusal.{refusals-keep}
 use Rattle.plan.proofs.Cases.{move-by, save-by}
 use Rattle.plan.proofs.Select.{select-unpainted, setting-unpainted}
@@ -83,7 +83,7 @@ module _ (b : GdiState) (n k : ℕ) (us : List ℕ) (m : Taint) where
   unfolding plan
   accepted-plan c = by (eqb (commonRefusal b n k) 0) refl
     where
-      by : (t : Bool) → eqb (commonRefusal b n k) 0 ≡ t → numberOf (cond t (act c us b) (refuse (commonRefusal b n k) b)) ≡ 0
+      by : (t : Bool) → eqb (commonRefusal b n k) 0 ≡ t → refusalNumber (cond t (act c us b) (refuse (commonRefusal b n k) b)) ≡ 0
           → cond t (act c us b) (refuse (commonRefusal b n k) b) ≡ act c us b
       by true f e = refl
       by false f e = absurd (eqb-false _ _ f e)
@@ -147,7 +147,7 @@ module _ (b : GdiState) (n k : ℕ) (us : List ℕ) (m : Taint) where
   unfolding act paintsOf tainted
   text-taint dc at s i d z e = by-plan (Text dc at) (accepted-plan (Text dc at) z ∙ is) (solid-exact m s _ _)
     where
-      by : (t : Bool) → numberOf (cond t (textOn b us (unitCount us) at s d) (refuse 10 b)) ≡ 0 → cond t (textOn b us (unitCount us) at s d) (refuse 10 b) ≡ textOn b us (unitCount us) at s d
+      by : (t : Bool) → refusalNumber (cond t (textOn b us (unitCount us) at s d) (refuse 10 b)) ≡ 0 → cond t (textOn b us (unitCount us) at s d) (refuse 10 b) ≡ textOn b us (unitCount us) at s d
       by true z = refl
       by false z = absurd (omega arith)
 
@@ -155,14 +155,14 @@ module _ (b : GdiState) (n k : ℕ) (us : List ℕ) (m : Taint) where
       shown = unfold text in rw e
 
       is : text b us dc at ≡ textOn b us (unitCount us) at s d
-      is = shown ∙ by (leb (unitCount us) 65535) (ap numberOf (sym (accepted-plan (Text dc at) z ∙ shown)) ∙ z)
+      is = shown ∙ by (leb (unitCount us) 65535) (ap refusalNumber (sym (accepted-plan (Text dc at) z ∙ shown)) ∙ z)
 
   line-taint : (dc : ℕ) (to : Point) (s : SurfaceId) (i : Site) (d : Dc) → number b n k us (LineTo dc to) ≡ 0 → targetOf b dc ≡ On s i d
       → Untaints m (taintBy b n k us m (LineTo dc to)) s (lineOf (positionOf d) to)
   unfolding act paintsOf tainted
   line-taint dc to s i d z e = by-plan (LineTo dc to) (accepted-plan (LineTo dc to) z ∙ is) (solid-exact m s _ _)
     where
-      by : (t : Bool) → numberOf (cond t (lineOn b dc to s d) (refuse 11 b)) ≡ 0 → cond t (lineOn b dc to s d) (refuse 11 b) ≡ lineOn b dc to s d
+      by : (t : Bool) → refusalNumber (cond t (lineOn b dc to s d) (refuse 11 b)) ≡ 0 → cond t (lineOn b dc to s d) (refuse 11 b) ≡ lineOn b dc to s d
       by true z = refl
       by false z = absurd (omega arith)
 
@@ -170,13 +170,13 @@ module _ (b : GdiState) (n k : ℕ) (us : List ℕ) (m : Taint) where
       shown = unfold lineTo in rw e
 
       is : lineTo b dc to ≡ lineOn b dc to s d
-      is = shown ∙ by (isPosition (to .x) (to .y)) (ap numberOf (sym (accepted-plan (LineTo dc to) z ∙ shown)) ∙ z)
+      is = shown ∙ by (isPosition (to .x) (to .y)) (ap refusalNumber (sym (accepted-plan (LineTo dc to) z ∙ shown)) ∙ z)
 
   resize-taint : (w h : ℕ) → number b n k us (Resize w h) ≡ 0 → noEffect b w h ≡ false → Untaints m (taintBy b n k us m (Resize w h)) Panel everywhere
   unfolding act tainted
   resize-taint w h z e = by-plan (Resize w h) (accepted-plan (Resize w h) z ∙ is) (blank-exact m _ _ _ Panel)
     where
-      by : (t u : Bool) → numberOf (cond t (refuse 6 b) (cond u (refuse 7 b) (resized b w h))) ≡ 0 → cond t (refuse 6 b) (cond u (refuse 7 b) (resized b w h)) ≡ resized b w h
+      by : (t u : Bool) → refusalNumber (cond t (refuse 6 b) (cond u (refuse 7 b) (resized b w h))) ≡ 0 → cond t (refuse 6 b) (cond u (refuse 7 b) (resized b w h)) ≡ resized b w h
       by true u z = absurd (omega arith)
       by false true z = absurd (omega arith)
       by false false z = refl
@@ -185,7 +185,7 @@ module _ (b : GdiState) (n k : ℕ) (us : List ℕ) (m : Taint) where
       shown = unfold resize in rw e
 
       is : resize b w h ≡ resized b w h
-      is = shown ∙ by (ltb 4096 w || ltb 4096 h) (ltb (b .«panel_len») (size w h)) (ap numberOf (sym (accepted-plan (Resize w h) z ∙ shown)) ∙ z)
+      is = shown ∙ by (ltb 4096 w || ltb 4096 h) (ltb (b .«panel_len») (size w h)) (ap refusalNumber (sym (accepted-plan (Resize w h) z ∙ shown)) ∙ z)
 
   -- a new object, named by the answered handle; a refusal answers none
   refused-no-handle : (i h : ℕ) {A : Type 0} → (i ≡ 0 → ⊥) → refused i ≡ answered h → A
@@ -252,7 +252,7 @@ module _ (b : GdiState) (n k : ℕ) (us : List ℕ) (m : Taint) where
   load-taint bytes = by (eqb (commonRefusal b n k) 0) refl (isTable b bytes) (sizesFit (heldBy b bytes))
     where
       by : (s : Bool) → eqb (commonRefusal b n k) 0 ≡ s → (t u : Bool)
-          → numberOf (cond s (cond t (cond u (loaded (heldBy b bytes)) (refuse 7 b)) (refuse 12 b)) (refuse (commonRefusal b n k) b)) ≡ 0
+          → refusalNumber (cond s (cond t (cond u (loaded (heldBy b bytes)) (refuse 7 b)) (refuse 12 b)) (refuse (commonRefusal b n k) b)) ≡ 0
           → Clears m (tainted (cond s (cond t (cond u (loaded (heldBy b bytes)) (refuse 7 b)) (refuse 12 b)) (refuse (commonRefusal b n k) b) .paint) m) others
       by true f true true z = loaded-clears (heldBy b bytes) m
       by true f true false z = absurd (omega arith)

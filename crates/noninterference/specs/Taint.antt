@@ -30,7 +30,7 @@ use Rattle.plan.specs.Drawing.{boxOf, rimOf, blitBox, columnFor, rowFor}
 use Rattle.plan.specs.Panel.{noEffect}
 use Rattle.plan.specs.Lines.{positionOf, lineOf}
 use Rattle.plan.specs.Calls.{Invocation, call, load as loadOf, save as saveInto, plan}
-use Rattle.plan.specs.Refusal.{numberOf}
+use Rattle.plan.specs.Refusal.{refusalNumber}
 use Rattle.noninterference.specs.Claim.{taintAfter}
 
 -- a call that makes an object
@@ -62,7 +62,7 @@ bySource m rop q a p x y = (usesSrc (tableOf rop) ≡ true) × m q (columnFor a 
 module _ (b : GdiState) (panel-len store-len : ℕ) (units : List ℕ) where
   -- its number; 0 if it is accepted. The same of a load or a save
   abbrev pub numberFor : Invocation → ℕ
-  numberFor c = numberOf (plan c b panel-len store-len)
+  numberFor c = refusalNumber (plan c b panel-len store-len)
 
   abbrev pub number : Call → ℕ
   number c = numberFor (call c units)

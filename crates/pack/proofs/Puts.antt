@@ -7,7 +7,7 @@ use native.Mathlib.Omega.{arith}
 use lib.ListN.{length, getD, length-append, take-append-drop, replicate, length-replicate}
 use Rattle.words.specs.Parts.{withPart}
 use Rattle.bits.specs.Bits.{bitsOf, field, fields, filling, total}
-use Rattle.bits.specs.Inner.{AllWithin}
+use Rattle.bits.specs.Inner.{FieldsFit}
 use Rattle.bits.proofs.Fields.{field-zero}
 use Rattle.bits.proofs.Bytes.{length-bits}
 use Rattle.bits.proofs.Lists.{length-fields}
@@ -20,7 +20,7 @@ module _ (ws vs : List ℕ) {bs : List ℕ} (e : fields ws vs ≡ bs) where
   length-as = sym (ap length e) ∙ length-fields ws vs
 
   -- what their writer asks
-  pub room-fields : {m : List ℕ} {at : ℕ} → Room m at bs → ((k : ℕ) → getD ws k 0 ≤ 32) → AllWithin m at ws
+  pub room-fields : {m : List ℕ} {at : ℕ} → Room m at bs → ((k : ℕ) → getD ws k 0 ≤ 32) → FieldsFit m at ws
   room-fields r short = record { inside = omega (arith, r .inside, length-as); counted = omega (arith, r .counted, length-as); short = short }
 
   -- what it did

@@ -31,8 +31,8 @@ use Rattle.plan.specs.Plan.{Plan, recordOnly, refuse}
 use Rattle.plan.specs.Drawing.{onTarget, onSource, patternFillOn, patternFill, rectangleOn, rectangle, textOn, text, blitOn, blit}
 use Rattle.plan.specs.Panel.{resized, resize}
 use Rattle.plan.specs.Lines.{unlessFar, moveOn, moveAt, moveTo, lineOn, lineTo}
-use Rattle.plan.specs.Load.{loaded, load}
-use Rattle.plan.specs.Save.{save}
+use Rattle.plan.specs.Load.{loaded, loadTable}
+use Rattle.plan.specs.Save.{saveTable}
 
 module _ {ℓ} (P : Plan → Type ℓ) (b : GdiState) (refused : (n : ℕ) → P (refuse n b)) where
   on-target : (q : Target) (f : SurfaceId → Dc → Plan) → ((s : SurfaceId) (d : Dc) → P (f s d)) → P (onTarget b q f)
@@ -116,8 +116,8 @@ module _ {ℓ} (P : Plan → Type ℓ) (b : GdiState) (refused : (n : ℕ) → P
           let n = neither (ltb 4096 w) (ltb 4096 h) e in
           k (is-side w (z .0) (n .0)) (is-side h (z .1) (n .1)) (ltb-false (b .«panel_len») (size w h) f)
 
-  pub load-by : (bytes : List ℕ) → (isTable b bytes ≡ true → sizesFit (heldBy b bytes) ≡ true → P (loaded (heldBy b bytes))) → P (load b bytes)
-  unfolding load
+  pub load-by : (bytes : List ℕ) → (isTable b bytes ≡ true → sizesFit (heldBy b bytes) ≡ true → P (loaded (heldBy b bytes))) → P (loadTable b bytes)
+  unfolding loadTable
   load-by bytes k = by (isTable b bytes) refl (sizesFit (heldBy b bytes)) refl
     where
       by : (t : Bool) → isTable b bytes ≡ t → (u : Bool) → sizesFit (heldBy b bytes) ≡ u → P (cond t (cond u (loaded (heldBy b bytes)) (refuse 7 b)) (refuse 12 b))
@@ -125,8 +125,8 @@ module _ {ℓ} (P : Plan → Type ℓ) (b : GdiState) (refused : (n : ℕ) → P
       by true e false f = refused 7
       by false e u f = refused 12
 
-  pub save-by : (room : ℕ) → P (recordOnly b (saved (savedTable b))) → P (save b room)
-  unfolding save
+  pub save-by : (room : ℕ) → P (recordOnly b (saved (savedTable b))) → P (saveTable b room)
+  unfolding saveTable
   save-by room k = by (isSound b) (leb (length (savedTable b)) room)
     where
       by : (t u : Bool) → P (cond t (cond u (recordOnly b (saved (savedTable b))) (refuse 13 b)) (refuse 9 b))

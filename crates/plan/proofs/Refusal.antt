@@ -26,17 +26,17 @@ use Rattle.plan.specs.Delete.{deletionAt, deletionOf}
 use Rattle.plan.specs.Select.{isOther, selectAt, selectInto}
 use Rattle.plan.specs.Settings.{settingAt, setting}
 use Rattle.plan.specs.Calls.{act, Invocation, call as callOf, load, save, whenReady, plan}
-use Rattle.plan.specs.Refusal.{numberOf, RefusalsKeep}
+use Rattle.plan.specs.Refusal.{refusalNumber, RefusalsKeep}
 use Rattle.plan.proofs.Cases.{pattern-fill-by, rectangle-by, text-by, move-by, line-by, blit-by, resize-by, load-by, save-by}
 
 -- a plan that changes nothing if it refuses
 record Keeps (b : GdiState) (p : Plan) : Type 0 where
-  keeps : (numberOf p ≡ 0 → ⊥) → p ≡ refuse (numberOf p) b
+  keeps : (refusalNumber p ≡ 0 → ⊥) → p ≡ refuse (refusalNumber p) b
 
 refusal : (b : GdiState) (n : ℕ) → Keeps b (refuse n b)
 refusal b n = record { keeps = λ h. refl }
 
-accepted : (b : GdiState) (p : Plan) → numberOf p ≡ 0 → Keeps b p
+accepted : (b : GdiState) (p : Plan) → refusalNumber p ≡ 0 → Keeps b p
 accepted b p e = record { keeps = λ h. absurd (h e) }
 
 create : (b : GdiState) (o : GdiObject) → Keeps b (createOf b o)

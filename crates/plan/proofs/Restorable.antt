@@ -50,7 +50,7 @@ use Rattle.plan.specs.Select.{isOther, selectAt, selectInto}
 use Rattle.plan.specs.Settings.{settingAt, setting}
 use Rattle.plan.specs.declared.Point.{Point}
 use Rattle.plan.specs.Lines.{movedAt, movedTo}
-use Rattle.plan.specs.Load.{load as loadTable}
+use Rattle.plan.specs.Load.{loadTable}
 use Rattle.plan.specs.Calls.{act, Invocation, call, load, save, whenReady, plan}
 use Rattle.plan.specs.Restorable.{Restorable, StaysRestorable}
 use Rattle.plan.proofs.Cases.{pattern-fill-by, rectangle-by, text-by, move-by, line-by, blit-by, resize-by, load-by, save-by}

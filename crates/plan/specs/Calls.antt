@@ -18,8 +18,8 @@ use Rattle.plan.specs.Settings.{setTextColor, setTextAlign, setBkColor, 
 use Rattle.plan.specs.Drawing.{patternFill, rectangle, text, blit}
 use Rattle.plan.specs.Panel.{panelFill, resize}
 use Rattle.plan.specs.Lines.{moveTo, lineTo}
-use Rattle.plan.specs.Load.{load as loadTable}
-use Rattle.plan.specs.Save.{save as saveTable}
+use Rattle.plan.specs.Load.{loadTable}
+use Rattle.plan.specs.Save.{saveTable}
 
 -- the plan of a call on a ready device; units are those of a text
 unfoldable pub act : Call → (units : List ℕ) → GdiState → Plan

@@ -17,5 +17,5 @@ abbrev pub loaded : GdiState → Plan
 loaded b = turnedBlack b (blank PanelMemory 0 (size (b .width) (b .height)) (only Panel) ∷ blank Store 2 (b .«store_len» - 2) created ∷ [])
 
 -- 12 if the bytes are not exactly one table of a record sound except for the memory sizes; then 7 if its sizes do not fit
-unfoldable pub load : GdiState → (bytes : List ℕ) → Plan
-load b bytes = cond (isTable b bytes) (cond (sizesFit (heldBy b bytes)) (loaded (heldBy b bytes)) (refuse 7 b)) (refuse 12 b)
+unfoldable pub loadTable : GdiState → (bytes : List ℕ) → Plan
+loadTable b bytes = cond (isTable b bytes) (cond (sizesFit (heldBy b bytes)) (loaded (heldBy b bytes)) (refuse 7 b)) (refuse 12 b)

@@ -5,12 +5,12 @@ use Rattle.gdi.specs.declared.GdiState.{GdiState}
 use Rattle.plan.specs.Plan.{Plan, refuse}
 use Rattle.plan.specs.Calls.{Invocation, plan}
 
--- the number of a plan's answer
-abbrev pub numberOf : Plan → ℕ
-numberOf p = p .outcome .answer .number
+-- the refusal number of a plan's answer: 0 if it is accepted
+abbrev pub refusalNumber : Plan → ℕ
+refusalNumber p = p .outcome .answer .number
 
 -- A refusal gives its number, with every other part of the answer 0, false or none, and changes no byte and no field.
 abbrev pub RefusalsKeep : Type 0
 RefusalsKeep = (c : Invocation) (b : GdiState) (panel-len store-len : ℕ)
-    → (numberOf (plan c b panel-len store-len) ≡ 0 → ⊥)
-    → plan c b panel-len store-len ≡ refuse (numberOf (plan c b panel-len store-len)) b
+    → (refusalNumber (plan c b panel-len store-len) ≡ 0 → ⊥)
+    → plan c b panel-len store-len ≡ refuse (refusalNumber (plan c b panel-len store-len)) b

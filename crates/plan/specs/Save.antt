@@ -11,5 +11,5 @@ use Rattle.plan.specs.Plan.{Plan, recordOnly, refuse}
 
 -- Saving answers the length; pixels aren't saved. 9 if the record is unsound, then 13 if the output, which has so many bytes, is
 -- shorter than the table. It takes no memory, so 8 is not asked; and it changes nothing.
-unfoldable pub save : GdiState → (room : ℕ) → Plan
-save b n = cond (isSound b) (cond (leb (length (savedTable b)) n) (recordOnly b (saved (savedTable b))) (refuse 13 b)) (refuse 9 b)
+unfoldable pub saveTable : GdiState → (room : ℕ) → Plan
+saveTable b n = cond (isSound b) (cond (leb (length (savedTable b)) n) (recordOnly b (saved (savedTable b))) (refuse 13 b)) (refuse 9 b)

@@ -13,7 +13,7 @@ use Rattle.sound.specs.Sound.{isSound}
 use Rattle.saved_table.specs.Table.{savedTable}
 use Rattle.plan.specs.Answer.{Parts, refused, saved}
 use Rattle.plan.specs.Plan.{refuse, recordOnly}
-use Rattle.plan.specs.Save.{save}
+use Rattle.plan.specs.Save.{saveTable}
 use Rattle.plan.specs.Calls.{plan, planOn}
 use Rattle.save.specs.Save.{saveAnswer}
 
@@ -26,7 +26,7 @@ module _ (l : List ℕ) (n : ℕ) where
   answerBy false s f = refused 9
 
   is-answer : saveAnswer l n ≡ answerBy (isRecord l) (isSound (view l)) (leb (length (savedTable (view l))) n)
-  unfolding planOn plan save
+  unfolding planOn plan saveTable
   is-answer = by (isRecord l) (isSound (view l)) (leb (length (savedTable (view l))) n)
     where
       by : (r s f : Bool) → cond r (cond s (cond f (recordOnly (view l) (saved (savedTable (view l)))) (refuse 13 (view l))) (refuse 9 (view l))) (refuse 9 (view l)) .outcome .answer ≡ answerBy r s f

@@ -10,7 +10,7 @@ use lib.ListN.{length, getD}
 use borrow.Author.Tests.{le-leb, lt-leb, leb-true, leb-false, not-true, not-false}
 use Rattle.arithmetic.proofs.Test.{both, not-right}
 use Rattle.bits.specs.Bits.{bitsOf, fieldAt, total}
-use Rattle.bits.specs.Inner.{Within, AllWithin}
+use Rattle.bits.specs.Inner.{FieldFits, FieldsFit}
 use Rattle.bits.proofs.Bytes.{length-bits}
 use Rattle.saved_table.specs.Held.{startHeld}
 use Rattle.saved_table.proofs.Lengths.{kind-total}
@@ -25,10 +25,10 @@ module _ (s : List ℕ) {t : Bool} {n : ℕ} (e : t ≡ leb n (length (bitsOf s)
   bits-missing f = leb-false _ _ (sym e ∙ not-true _ f)
 
 -- fields that may be read
-pub field-there : (s : List ℕ) {p n : ℕ} → p + n ≤ length (bitsOf s) → p < 2 ^ 33 → n ≤ 32 → Within s p n
+pub field-there : (s : List ℕ) {p n : ℕ} → p + n ≤ length (bitsOf s) → p < 2 ^ 33 → n ≤ 32 → FieldFits s p n
 field-there s h lt few = record { inside = omega (arith, length-bits s); counted = omega arith; short = few }
 
-pub fields-there : (s : List ℕ) (p : ℕ) {ws : List ℕ} → p + total ws ≤ length (bitsOf s) → p < 2 ^ 33 → total ws ≤ 354 → ((k : ℕ) → getD ws k 0 ≤ 32) → AllWithin s p ws
+pub fields-there : (s : List ℕ) (p : ℕ) {ws : List ℕ} → p + total ws ≤ length (bitsOf s) → p < 2 ^ 33 → total ws ≤ 354 → ((k : ℕ) → getD ws k 0 ≤ 32) → FieldsFit s p ws
 fields-there s p h lt few short = record { inside = omega (arith, length-bits s); counted = omega arith; short = short }
 
 module _ (bs : List ℕ) where

@@ -6,7 +6,7 @@ ghost use Prim.Native.Nat.{_+_, _≤_, _<_, _^_};
 ghost use lib.Dec.{leb};
 ghost use lib.ListN.{length};
 ghost use Rattle.bits.specs.Bits.{bitsOf, numbersIn};
-ghost use Rattle.bits.specs.Inner.{AllWithin};
+ghost use Rattle.bits.specs.Inner.{FieldsFit};
 ghost use Rattle.numbers.specs.Layout.{objectSize, slotSize, recordSize, stockDirtyPlace};
 ghost use Rattle.numbers.specs.Block.{at, dcFields, objectOf};
 ghost use Rattle.numbers.specs.View.{view, Updated};
@@ -83,7 +83,7 @@ pub fn is_complete(bytes: &[u8]) -> bool
 
 // Reads the DC whose fields begin at bit `at`. The number of its surface is not saved.
 fn dc_held(bytes: &[u8], at: usize, surface: u32) -> Dc
-    requires { ⌜ AllWithin (now bytes) at dcWidths ⌝ }
+    requires { ⌜ FieldsFit (now bytes) at dcWidths ⌝ }
     ensures { λ r. ⌜ r ≡ dcFields (surface ∷ numbersIn dcWidths (bitsOf (now (bytes .entry))) at) ⌝ }
 {
     let mut block = [0u32; OBJECT_SIZE];
@@ -94,7 +94,7 @@ fn dc_held(bytes: &[u8], at: usize, surface: u32) -> Dc
 
 // Reads an object of this kind from fields of these widths.
 fn object_as(bytes: &[u8], at: usize, kind: u32, widths: &[u32]) -> GdiObject
-    requires { ⌜ AllWithin (now bytes) at (now widths) ⌝ }
+    requires { ⌜ FieldsFit (now bytes) at (now widths) ⌝ }
     requires { ⌜ length (now widths) ≤ objectSize ⌝ }
     ensures { λ r. ⌜ r ≡ objectOf kind (blockHeld (now (widths .entry)) (bitsOf (now (bytes .entry))) at) ⌝ }
 {
@@ -105,7 +105,7 @@ fn object_as(bytes: &[u8], at: usize, kind: u32, widths: &[u32]) -> GdiObject
 
 // Reads the object of this kind whose fields begin at bit `at`. A created DC is a memory DC.
 fn object_held(bytes: &[u8], at: usize, kind: u32) -> GdiObject
-    requires { ⌜ AllWithin (now bytes) at (widthsOf kind) ⌝ }
+    requires { ⌜ FieldsFit (now bytes) at (widthsOf kind) ⌝ }
     ensures { λ r. ⌜ r ≡ objectHeld kind (bitsOf (now (bytes .entry))) at ⌝ }
 {
     match kind {

@@ -9,7 +9,7 @@ use lib.ListN.{length, getD, drop, take-append-drop, drop-of-length-le}
 use borrow.Author.Needs.{needs}
 use Rattle.words.specs.Parts.{withPart}
 use Rattle.bits.specs.Bits.{bitsOf, field, fields, total}
-use Rattle.bits.specs.Inner.{AllWithin}
+use Rattle.bits.specs.Inner.{FieldsFit}
 use Rattle.bits.proofs.Fields.{length-field}
 use Rattle.bits.proofs.Bytes.{length-bits}
 use Rattle.bits.proofs.Lists.{total-next, fields-next}
@@ -31,7 +31,7 @@ abbrev μ-loop : tie.MeasureT-loop
 μ-loop out₀ at widths values p₀ i₀ out p i = length widths - i
 
 -- field i is put
-module _ {out₀ : List ℕ} {at : ℕ} {ws vs out : List ℕ} {p i : ℕ} (all : AllWithin out₀ at ws) (l : Left out₀ at ws vs out p i) (lt : i < length ws) where
+module _ {out₀ : List ℕ} {at : ℕ} {ws vs out : List ℕ} {p i : ℕ} (all : FieldsFit out₀ at ws) (l : Left out₀ at ws vs out p i) (lt : i < length ws) where
   inside : p + getD ws i 0 + total (drop (suc i) ws) ≡ at + total ws
   inside = omega (arith, total-next ws i lt, l .place)
 

@@ -6,7 +6,7 @@ use borrow.Author.Needs.{needs}
 use Rattle.arithmetic.proofs.Machine.{held32, stored32}
 use Rattle.line.specs.Line.{extent}
 use Rattle.line.specs.Inner.{Seen}
-use Rattle.line.proofs.Line.{flat-room, flat-lined, steep-room, steep-lined}
+use Rattle.line.proofs.Line.{flat-steps-fit, flat-lined, steep-steps-fit, steep-lined}
 use Rattle.line.proofs.draw_line.Statement.{statement}
 use Rattle.line.proofs.draw_line.Tie as tie
 
@@ -61,7 +61,7 @@ draw-steps-requires c κs =
     let d = c .before in
     let k = K d in
     let a = s k .args in
-    flat-room (a .pixels .now) (s k .pre .0) (A k) (B k) (d .before .before .if1 .taken) (small k .0) (across d) (down d)
+    flat-steps-fit (a .pixels .now) (s k .pre .0) (A k) (B k) (d .before .before .if1 .taken) (small k .0) (across d) (down d)
 
 returns : tie.Need-returns
 returns c =
@@ -94,7 +94,7 @@ draw-steps-requires-2 c κs =
     let d = c .before in
     let k = L d in
     let a = s k .args in
-    steep-room (a .pixels .now) (s k .pre .0) (A k) (B k) (d .before .before .if1 .left) (small k .1) (down-first d) (across-then d)
+    steep-steps-fit (a .pixels .now) (s k .pre .0) (A k) (B k) (d .before .before .if1 .left) (small k .1) (down-first d) (across-then d)
 
 returns-2 : tie.Need-returns-2
 returns-2 c =

@@ -5,7 +5,7 @@ use native.Mathlib.Omega.{arith}
 use mathlib.Core.List.{List}
 use borrow.Author.Needs.{needs}
 use Rattle.bits.specs.Bits.{bitsOf}
-use Rattle.bits.specs.Inner.{AllWithin}
+use Rattle.bits.specs.Inner.{FieldsFit}
 use Rattle.gdi.specs.declared.GdiObject.the-variants.{Dc as DcOf}
 use Rattle.unpack.proofs.Blocks.{held-dc, held-bitmap, held-pen, held-other}
 use Rattle.saved_table.proofs.Lengths.{widths-dc, widths-bitmap, widths-pen, widths-other}
@@ -13,20 +13,20 @@ use Rattle.unpack.proofs.object_held.Statement.{statement}
 use Rattle.unpack.proofs.object_held.Tie as tie
 
 dc-held-requires : tie.Need-dc-held-requires
-dc-held-requires c κs = subst (λ (ws : List ℕ). AllWithin (c .before .before .args .bytes .now) (c .before .before .args .at) ws) (widths-dc _ (c .match .keys1)) (c .before .before .pre)
+dc-held-requires c κs = subst (λ (ws : List ℕ). FieldsFit (c .before .before .args .bytes .now) (c .before .before .args .at) ws) (widths-dc _ (c .match .keys1)) (c .before .before .pre)
 
 object-as-requires : tie.Need-object-as-requires
 object-as-requires c κs =
-    (subst (λ (ws : List ℕ). AllWithin (c .before .before .before .args .bytes .now) (c .before .before .before .args .at) ws) (widths-bitmap _ (c .before .match .keys2)) (c .before .before .before .pre), omega arith)
+    (subst (λ (ws : List ℕ). FieldsFit (c .before .before .before .args .bytes .now) (c .before .before .before .args .at) ws) (widths-bitmap _ (c .before .match .keys2)) (c .before .before .before .pre), omega arith)
 
 object-as-requires-2 : tie.Need-object-as-requires-2
 object-as-requires-2 c κs =
-    (subst (λ (ws : List ℕ). AllWithin (c .before .before .before .args .bytes .now) (c .before .before .before .args .at) ws) (widths-pen _ (c .before .match .keys3)) (c .before .before .before .pre), omega arith)
+    (subst (λ (ws : List ℕ). FieldsFit (c .before .before .before .args .bytes .now) (c .before .before .before .args .at) ws) (widths-pen _ (c .before .match .keys3)) (c .before .before .before .pre), omega arith)
 
 object-as-requires-3 : tie.Need-object-as-requires-3
 object-as-requires-3 c κs =
     let r = c .before .match .rest in
-    (subst (λ (ws : List ℕ). AllWithin (c .before .before .before .args .bytes .now) (c .before .before .before .args .at) ws) (widths-other _ (r .0 .0 .1) (r .0 .1) (r .1)) (c .before .before .before .pre), omega arith)
+    (subst (λ (ws : List ℕ). FieldsFit (c .before .before .before .args .bytes .now) (c .before .before .before .args .at) ws) (widths-other _ (r .0 .0 .1) (r .0 .1) (r .1)) (c .before .before .before .pre), omega arith)
 
 returns : tie.Need-returns
 returns c = ap DcOf (c .dc-held .ensures) ∙ held-dc (c .before .before .before .args .kind) (bitsOf (c .before .before .before .args .bytes .now)) (c .before .before .before .args .at) (c .before .match .keys1)
