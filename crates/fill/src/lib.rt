@@ -77,7 +77,7 @@ pub fn rop_rect(pixels: &mut [u8], width: u32, r: Rect, table: u8, pat: u16) -> 
     true
 }
 
-// The same in the columns from x0 on of rows y0 .. y1.
+// The same in the columns from x0 on of rows y0 .. y1. start is the word at which row r begins.
 fn rop_rows(
     pixels: &mut [u8],
     width: usize,
@@ -91,7 +91,12 @@ fn rop_rows(
     requires { ⌜ (0 < width) × ((x0 + columns ≤ width) × (2 * (y1 * width) ≤ length (now pixels))) ⌝ }
     ensures { λ _. ⌜ now (pixels .exit) ≡ roppedRect width x0 (x0 + columns) y0 y1 table pat (now (pixels .entry)) ⌝ }
 {
+    if y1 <= y0 {
+        return;
+    }
+    let mut start = y0 * width;
     for r in y0..y1 {
-        raster::rop_run(pixels, r * width + x0, columns, table, pat);
+        raster::rop_run(pixels, start + x0, columns, table, pat);
+        start += width;
     }
 }
