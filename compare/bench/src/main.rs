@@ -13,10 +13,6 @@ use timing::time;
 /// About how long each of the two runs in a round, in nanoseconds.
 const SLICE: f64 = 2e6;
 
-/// How much a ratio may be above its target: half a hundredth, less than two runs
-/// differ by.
-const TOLERANCE: f64 = 0.005;
-
 /// What is drawn.
 enum Operation {
     Fill([i32; 4]),
@@ -172,7 +168,7 @@ fn main() {
     for row in rows() {
         let (ours, theirs) = measure(&row, rounds);
         let ratio = ours / theirs;
-        if row.target.is_some_and(|target| ratio > target + TOLERANCE) {
+        if row.target.is_some_and(|target| ratio > target) {
             over.push(row.name);
         }
         let target = row.target.map_or("–".into(), |target| format!("{target:.1}"));
