@@ -1,5 +1,7 @@
 // Numbers in a byte slice, most significant byte first; signed ones are in two's complement. The caller guarantees that the
 // bytes are there: it tests the length once, and then reads number after number.
+#![tactic(auto)]
+
 ghost use Rattle.std.specs.Prelude.{◌≡◌, ◌+◌, ◌≤◌, length};
 ghost use Rattle.bigendian.specs.BigEndian.{be16, be32, signed16, signed32};
 

@@ -1,4 +1,6 @@
 // Blit by DC handles, on a flat record.
+#![tactic(auto)]
+
 ghost use Rattle.std.specs.Prelude.{length};
 ghost use Rattle.numbers.specs.View.{view};
 ghost use Rattle.ready.proofs.Ready.{Lent};

@@ -1,4 +1,6 @@
 // Fields of bits in lent bytes, most significant bit first, at any bit. Callers prove that a field lies within the bytes.
+#![tactic(auto)]
+
 ghost use Rattle.std.specs.Prelude.{◌++◌, ◌≡◌, ◌+◌, ◌*◌, ◌%◌, ◌≤◌, ◌<◌, ◌^◌, length, drop};
 ghost use Rattle.words.specs.Parts.{part, with_part};
 ghost use Rattle.bits.specs.Bits.{field, fields, number_of, numbers_in, bits_of, filling, total, equal};

@@ -1,4 +1,6 @@
 // Blits: a box of a source drawn on a surface under a raster code. The source is other bytes.
+#![tactic(auto)]
+
 ghost use Rattle.std.specs.Prelude.{not, ◌≡◌, ◌+◌, ◌-◌, ◌≤◌, ◌<◌, length};
 ghost use Rattle.rop3.specs.Rop3.{table_of};
 ghost use Rattle.surface.specs.Region.{nonempty};
@@ -11,7 +13,7 @@ use color::Rgb565;
 use surface::Drawn;
 
 // The numbers of a blit: the destination's sides, its box, the point in the source, and the source's sides.
-#[derive(Drop)]
+#[derive(Clone, Copy)]
 pub struct Blit {
     pub width: u32,
     pub height: u32,

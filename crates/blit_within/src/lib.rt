@@ -1,4 +1,6 @@
 // Blits between two surfaces of one memory, or within one.
+#![tactic(auto)]
+
 ghost use Rattle.std.specs.Prelude.{◌≡◌, ◌≤◌, ◌<◌, length};
 ghost use Rattle.rop3.specs.Rop3.{table_of};
 ghost use Rattle.blit.specs.Blit.{marks};
@@ -9,7 +11,7 @@ use clip_blit::BlitRect;
 use color::Rgb565;
 
 // Two surfaces of one memory: the words where they begin, and their widths.
-#[derive(Drop)]
+#[derive(Clone, Copy)]
 pub struct Pair {
     pub at: usize,
     pub width: u32,

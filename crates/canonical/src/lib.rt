@@ -1,1 +1,2 @@
 // A record has one form in numbers: proofs only.
+#![tactic(auto)]

@@ -1,4 +1,6 @@
 // Fills, outlines, text and lines on a surface in either memory: the surface's part of the memory is lent to the operation.
+#![tactic(auto)]
+
 ghost use Rattle.std.specs.Prelude.{◌≡◌, length};
 ghost use Rattle.surface.proofs.Accepted.{InOrder};
 ghost use Rattle.place.specs.Place.{Within};
@@ -13,7 +15,7 @@ use plan::{Area, Point};
 
 // What to draw in one colour: an area under a raster code, the outline of an area, the first count units of a text, or a line
 // without its end.
-#[derive(Drop)]
+#[derive(Clone, Copy)]
 pub enum Drawing {
     Fill { area: Area, rop: u32 },
     Outline(Area),

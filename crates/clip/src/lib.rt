@@ -1,16 +1,18 @@
 // Which part of a box lies on a surface. Coordinates are summed exactly.
+#![tactic(auto)]
+
 ghost use Rattle.std.specs.Prelude.{◌≡◌};
 ghost use Rattle.clip.specs.Clip.{nearest, clipped_axis, clipped_rect};
 
 // The coordinates from .. to of one axis of a surface; none where to <= from.
-#[derive(Drop)]
+#[derive(Clone, Copy)]
 pub struct Span {
     pub from: u32,
     pub to: u32,
 }
 
 // Columns x0 .. x1 and rows y0 .. y1 of a surface.
-#[derive(Drop)]
+#[derive(Clone, Copy)]
 pub struct Rect {
     pub x0: u32,
     pub y0: u32,

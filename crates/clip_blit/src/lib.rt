@@ -1,9 +1,11 @@
 // The part of a blit that is drawn, and where in the source its pixels are. Coordinates are summed exactly.
+#![tactic(auto)]
+
 ghost use Rattle.std.specs.Prelude.{◌≡◌};
 ghost use Rattle.clip_blit.specs.Blit.{blit_axis, blit_rect};
 
 // The coordinates from .. to of the destination, drawn from the source's src on.
-#[derive(Drop)]
+#[derive(Clone, Copy)]
 pub struct BlitSpan {
     pub from: u32,
     pub to: u32,
@@ -11,7 +13,7 @@ pub struct BlitSpan {
 }
 
 // Columns x0 .. x1 and rows y0 .. y1 of the destination, drawn from column src_x0 and row src_y0 of the source on.
-#[derive(Drop)]
+#[derive(Clone, Copy)]
 pub struct BlitRect {
     pub x0: u32,
     pub y0: u32,

@@ -1,19 +1,20 @@
 // Colours: the COLORREF that callers name, the RGB565 word that pixels hold, and the RGB555 word of other bitmaps.
+#![tactic(auto)]
 
 ghost use Rattle.std.specs.Prelude.{◌≡◌};
 ghost use Rattle.color.specs.Color.{red, green, blue, packed_channels, packed, widened};
 
 // 0x00BBGGRR. A COLORREF is never taken for an RGB565 word: only packing and widening cross between the two.
-#[derive(Drop)]
+#[derive(Clone, Copy)]
 pub struct Colorref(pub u32);
 
 // RRRRRGGGGGGBBBBB.
 #[repr(C)]
-#[derive(Drop)]
+#[derive(Clone, Copy)]
 pub struct Rgb565(pub u16);
 
 // 0RRRRRGGGGGBBBBB.
-#[derive(Drop)]
+#[derive(Clone, Copy)]
 pub struct Rgb555(pub u16);
 
 // The red channel of a colour.

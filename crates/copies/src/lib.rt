@@ -1,5 +1,7 @@
 // Copies runs of words from another memory, or within one. A run is the n words from word d on; the caller guarantees that it lies
 // within the memory.
+#![tactic(auto)]
+
 ghost use Rattle.std.specs.Prelude.{◌≡◌, ◌≤◌, ◌*◌, ◌+◌, ◌-◌, length};
 ghost use Rattle.arithmetic.specs.Interval.{between};
 ghost use Rattle.words.specs.Words.{painted, word};

@@ -1,4 +1,5 @@
 // The CRC-32 of zlib and PNG.
+#![tactic(auto)]
 
 ghost use Rattle.std.specs.Prelude.{◌≡◌};
 ghost use Rattle.crc32.specs.Crc32.{bit_step, byte_step, crc32};

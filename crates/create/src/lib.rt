@@ -1,4 +1,6 @@
 // The create calls, on a flat record.
+#![tactic(auto)]
+
 ghost use Rattle.std.specs.Prelude.{◌≡◌, true, length};
 ghost use Rattle.gdi.specs.declared.GdiObject.TheVariants.{Dc as DcOf, Brush as BrushOf, Pen as PenOf, Font as FontOf};
 ghost use Rattle.gdi.specs.Record.{default_dc};

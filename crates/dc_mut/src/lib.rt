@@ -1,4 +1,6 @@
 // Settings of one DC record, lent by `&mut` or by value.
+#![tactic(auto)]
+
 ghost use Rattle.std.specs.Prelude.{◌≡◌};
 ghost use Rattle.gdi.specs.Updates.{with_text_color, with_text_align, with_bk_color, with_bk_mode};
 
@@ -6,21 +8,21 @@ use color::Colorref;
 use gdi::Dc;
 
 // A DC with a new colour, and its old colour.
-#[derive(Drop)]
+#[derive(Clone, Copy)]
 pub struct ColorChange {
     pub dc: Dc,
     pub old: Colorref,
 }
 
 // A DC with a new alignment, and its old alignment.
-#[derive(Drop)]
+#[derive(Clone, Copy)]
 pub struct AlignChange {
     pub dc: Dc,
     pub old: u32,
 }
 
 // A DC with a new background mode, and its old mode.
-#[derive(Drop)]
+#[derive(Clone, Copy)]
 pub struct ModeChange {
     pub dc: Dc,
     pub old: bool,

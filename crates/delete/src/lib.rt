@@ -1,4 +1,6 @@
 // Delete and remove, on a flat record.
+#![tactic(auto)]
+
 ghost use Rattle.std.specs.Prelude.{true, length};
 ghost use Rattle.numbers.specs.View.{view};
 ghost use Rattle.plan.specs.Delete.{delete, remove};

@@ -1,4 +1,6 @@
 // Dirty marks: a mark adds 1 to the panel's frame counter, or sets a bitmap's `host_dirty`.
+#![tactic(auto)]
+
 ghost use Rattle.std.specs.Prelude.{◌≡◌, ◌<◌, true};
 ghost use Rattle.gdi.specs.declared.Found.TheVariants.{At};
 ghost use Rattle.numbers.specs.Layout.{count_place};

@@ -1,4 +1,6 @@
 // Writes DCs, objects and slots into a record's numbers.
+#![tactic(auto)]
+
 ghost use Rattle.std.specs.Prelude.{◌≡◌, [], ◌∷◌, length};
 ghost use Rattle.bigendian.specs.BigEndian.{signed32};
 ghost use Rattle.numbers.specs.Layout.{dc_size, object_size, slot_size};

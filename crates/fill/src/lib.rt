@@ -1,4 +1,6 @@
 // Fills of a box: in one colour, and under a raster code.
+#![tactic(auto)]
+
 ghost use Rattle.std.specs.Prelude.{◌≡◌, ◌+◌, ◌*◌, ◌≤◌, ◌<◌, length};
 ghost use Rattle.surface.specs.Region.{nonempty};
 ghost use Rattle.fill.specs.Fill.{FillRect, FillRectRop};

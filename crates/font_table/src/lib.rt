@@ -1,4 +1,6 @@
 // The table of the built-in font: eight rows of eight pixels for each of the characters 0x20 to 0x7E, bit 7 leftmost.
+#![tactic(auto)]
+
 ghost use Rattle.std.specs.Prelude.{◌≡◌, ◌<◌};
 ghost use Rattle.font.specs.Font.{glyphs, glyph_of};
 

@@ -1,4 +1,6 @@
 // The types of the device record, DCs and objects by value, and the stock objects.
+#![tactic(auto)]
+
 ghost use Rattle.std.specs.Prelude.{◌≡◌, true};
 ghost use Rattle.gdi.specs.Record.{fresh_bitmap, in_range, is_position, dc_on, default_dc, screen_dc, vacant_slot};
 ghost use Rattle.gdi.specs.Updates.{with_bitmap, with_position};
@@ -38,20 +40,20 @@ pub const STOCK_DEFAULT_BITMAP: u32 = 0xDEAD_5720;
 pub const MAX_OBJECTS: usize = 256;
 
 // Whether a DC paints the panel or its selected bitmap.
-#[derive(Drop)]
+#[derive(Clone, Copy)]
 pub enum DcSurface {
     Screen,
     Memory,
 }
 
 // The bitmap selected into a DC: none before the first selection.
-#[derive(Drop)]
+#[derive(Clone, Copy)]
 pub enum SelectedBitmap {
     Unset,
     Chosen(u32),
 }
 
-#[derive(Drop)]
+#[derive(Clone, Copy)]
 pub struct Dc {
     pub surface: DcSurface,
     pub selected_bitmap: SelectedBitmap,
@@ -69,30 +71,30 @@ pub struct Dc {
 }
 
 // A bitmap's record; its pixels are in the store.
-#[derive(Drop)]
+#[derive(Clone, Copy)]
 pub struct Bitmap {
     pub width: u32,
     pub height: u32,
     pub host_dirty: bool,
 }
 
-#[derive(Drop)]
+#[derive(Clone, Copy)]
 pub struct Brush {
     pub color: Colorref,
 }
 
-#[derive(Drop)]
+#[derive(Clone, Copy)]
 pub struct Pen {
     pub color: Colorref,
     pub width: u32,
 }
 
-#[derive(Drop)]
+#[derive(Clone, Copy)]
 pub struct Font {
     pub height: i32,
 }
 
-#[derive(Drop)]
+#[derive(Clone, Copy)]
 pub enum GdiObject {
     Dc(Dc),
     Bitmap(Bitmap),
@@ -102,7 +104,7 @@ pub enum GdiObject {
 }
 
 // A slot of the object table: an object and its handle.
-#[derive(Drop)]
+#[derive(Clone, Copy)]
 pub struct Slot {
     pub handle: u32,
     pub object: GdiObject,
@@ -111,7 +113,7 @@ pub struct Slot {
 // The record of a device, as the definitions use it; the code works on it as flat numbers (crate `numbers`). It holds the lengths
 // of the two lent memories, the panel's sides, the counters, the screen DC, the stock bitmap's dirty mark, and the created objects
 // in order of creation, in the first `count` slots.
-#[derive(Drop)]
+#[derive(Clone, Copy)]
 pub struct GdiState {
     pub panel_len: usize,
     pub store_len: usize,
@@ -126,28 +128,28 @@ pub struct GdiState {
 }
 
 // The result of looking a created object up: its slot, or nothing.
-#[derive(Drop)]
+#[derive(Clone, Copy)]
 pub enum Found {
     At(usize),
     Nothing,
 }
 
 // Where a DC's record is: in the record itself, or in a slot.
-#[derive(Drop)]
+#[derive(Clone, Copy)]
 pub enum Spot {
     Screen,
     Created(usize),
 }
 
 // The result of looking a DC up.
-#[derive(Drop)]
+#[derive(Clone, Copy)]
 pub enum DcFound {
     Is(Spot, Dc),
     Absent,
 }
 
 // The kind of object that a handle names, with the colour that a selection copies.
-#[derive(Drop)]
+#[derive(Clone, Copy)]
 pub enum Kind {
     Bitmap,
     Brush(Colorref),

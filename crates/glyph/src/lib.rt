@@ -1,4 +1,6 @@
 // One glyph in ink: only the pixels of its rows' set bits are painted.
+#![tactic(auto)]
+
 ghost use Rattle.std.specs.Prelude.{◌≡◌, cond, ◌+◌, ◌*◌, ◌≤◌, ◌<◌, pos, ◌+ℤ◌, length};
 ghost use Rattle.words.specs.Words.{painted};
 ghost use Rattle.font.specs.Font.{ink_at};
@@ -7,7 +9,7 @@ ghost use Rattle.surface.proofs.Accepted.{InOrder};
 ghost use Rattle.glyph.specs.Inner.{row_ink, bitmap_ink, Narrow, Shown};
 
 // The coordinates from .. to of a surface's side; the first of them is skip past the start of a glyph.
-#[derive(Drop)]
+#[derive(Clone, Copy)]
 pub struct Stretch {
     pub from: u32,
     pub to: u32,

@@ -1,4 +1,6 @@
 // Allocates handles and appends objects, on a flat record.
+#![tactic(auto)]
+
 ghost use Rattle.std.specs.Prelude.{◌≡◌, ◌<◌, true};
 ghost use Rattle.numbers.specs.Layout.{count_place};
 ghost use Rattle.numbers.specs.Block.{at};

@@ -1,4 +1,6 @@
 // What the test programs share: their input, and a memory filled before it is used.
+#![tactic(auto)]
+
 ghost use Rattle.io.specs.Counts.{IsPrefixLen};
 
 // The longest input; a longer one is bad.

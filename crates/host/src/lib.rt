@@ -1,6 +1,8 @@
 // The device under C names, for hosts in other languages. The host keeps the record as numbers and lends it with the two memories.
 // A call is a struct of numbers, a text's units are a slice. In C a slice is a pointer and a length. These functions have no
 // preconditions.
+#![tactic(auto)]
+
 ghost use Rattle.std.specs.Prelude.{◌≡◌};
 ghost use Rattle.plan.specs.Open.{Opened};
 ghost use Rattle.plan.specs.Followed.{OnBoth};

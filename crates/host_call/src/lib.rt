@@ -1,4 +1,6 @@
 // A call as numbers, for hosts in other languages.
+#![tactic(auto)]
+
 ghost use Rattle.std.specs.Prelude.{◌≡◌};
 ghost use Rattle.host_call.specs.Call.{area_of, at_of, from_of, call_of};
 
@@ -8,7 +10,7 @@ use plan::{Area, Call, Point};
 // A call, by its number in call scripts. Fields that the call does not use are ignored: `a` is a bitmap's or a panel's width, a
 // colour, an object's handle, a setting or a raster code, `b` a height or a pen's width; `h` is a font's height too.
 #[repr(C)]
-#[derive(Drop)]
+#[derive(Clone, Copy)]
 pub struct HostCall {
     pub call: u32,
     pub dc: u32,
@@ -23,7 +25,7 @@ pub struct HostCall {
     pub src_y: i32,
 }
 
-#[derive(Drop)]
+#[derive(Clone, Copy)]
 pub enum ParsedCall {
     NoCall,
     Is(Call),

@@ -1,4 +1,6 @@
 // An answer as numbers, for hosts in other languages.
+#![tactic(auto)]
+
 ghost use Rattle.std.specs.Prelude.{◌≡◌};
 ghost use Rattle.plan.specs.Answer.{parts_of};
 ghost use Rattle.host_reply.specs.Reply.{plain_reply, placed_reply, Replied};
@@ -12,7 +14,7 @@ pub const NO_OBJECT: u32 = 5;
 // An answer: the number of a refusal, 0 if there is none; a handle, colour, alignment or advance; a flag, 0 or 1; the old position
 // of a DC that was moved; a removed object's kind and its numbers, as in a record.
 #[repr(C)]
-#[derive(Drop)]
+#[derive(Clone, Copy)]
 pub struct Reply {
     pub refusal: u32,
     pub value: u32,

@@ -1,10 +1,12 @@
 // Where a call drew: the smallest box that holds all its pixels.
+#![tactic(auto)]
+
 ghost use Rattle.std.specs.Prelude.{◌≡◌, ◌<◌, min, max};
 ghost use Rattle.hull.specs.Hull.{corners, nowhere};
 ghost use Rattle.hull.specs.Inner.{holds_any, join, spanning};
 
 // Columns left .. right and rows top .. bottom, right and bottom exclusive. Four zeros: no pixel.
-#[derive(Drop)]
+#[derive(Clone, Copy)]
 pub struct Bounds {
     pub left: u32,
     pub top: u32,

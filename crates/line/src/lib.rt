@@ -1,5 +1,7 @@
 // A line on a surface. The larger of its extents is clipped to the surface first, so that the loop is bounded by a side, wherever the
 // ends are; quotient and remainder are carried along.
+#![tactic(auto)]
+
 ghost use Rattle.std.specs.Prelude.{◌≡◌, ℕ, ◌+◌, ◌^◌, ◌≤◌, ◌<◌, length};
 ghost use Rattle.arithmetic.specs.Test.{any_below};
 ghost use Rattle.words.specs.Words.{painted};
@@ -10,7 +12,7 @@ ghost use Rattle.line.specs.Inner.{coordinate_of, OnAxis, visible_of, Ranged, Se
 
 // One axis of a line on a side: steps begin .. end lie on it, the first of them at the coordinate first and the others up or down
 // from there.
-#[derive(Drop)]
+#[derive(Clone, Copy)]
 struct Axis {
     first: usize,
     up: bool,
@@ -19,7 +21,7 @@ struct Axis {
 }
 
 // The quotient and the remainder of (2·i·b + a) / (2·a) at step i of a line with the extents a and b.
-#[derive(Drop)]
+#[derive(Clone, Copy)]
 struct Quotient {
     q: usize,
     r: usize,

@@ -1,4 +1,6 @@
 // Moves and lines by DC handle, on a flat record.
+#![tactic(auto)]
+
 ghost use Rattle.std.specs.Prelude.{true, ◌≡◌, length};
 ghost use Rattle.gdi.specs.declared.DcFound.TheVariants.{Is};
 ghost use Rattle.gdi.specs.Lookup.{dc_of};

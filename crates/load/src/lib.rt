@@ -1,4 +1,6 @@
 // Loads a saved table.
+#![tactic(auto)]
+
 ghost use Rattle.std.specs.Prelude.{◌≡◌, true, length};
 ghost use Rattle.bits.specs.Bits.{equal};
 ghost use Rattle.numbers.specs.View.{view, is_record};
@@ -54,7 +56,7 @@ fn load_ready(numbers: &mut [u32], bytes: &[u8], panel: &mut [u8], store: &mut [
 
 // What a load asks of a table: the bytes of the panel's pixels, and the end of the store's pixels, which is 0 if the bytes are no
 // table.
-#[derive(Drop)]
+#[derive(Clone, Copy)]
 struct Sizes {
     panel: usize,
     end: usize,

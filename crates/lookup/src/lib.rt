@@ -1,4 +1,6 @@
 // Looks handles up in a flat record, and stores a DC under its handle.
+#![tactic(auto)]
+
 ghost use Rattle.std.specs.Prelude.{◌≡◌, true, ◌+◌, ◌≤◌, length};
 ghost use Rattle.words.specs.Parts.{part};
 ghost use Rattle.gdi.specs.Lookup.{find_of, dc_of, kind_at, kind_of};

@@ -1,4 +1,6 @@
 // Bytes of a memory zeroed, or removed and the gap closed.
+#![tactic(auto)]
+
 ghost use Rattle.std.specs.Prelude.{◌≡◌, ◌+◌, ◌-◌, ◌≤◌, length, drop};
 ghost use Rattle.std.proofs.Math.Seq.{paste};
 ghost use Rattle.memory.specs.Gap.{closed_up, blanked};

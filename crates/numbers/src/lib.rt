@@ -1,4 +1,6 @@
 // The record of a device as flat numbers of 32 bits, which a host keeps and lends; reading DCs, objects and slots from them.
+#![tactic(auto)]
+
 ghost use Rattle.std.specs.Prelude.{◌≡◌, ◌≤◌, length};
 ghost use Rattle.bigendian.specs.BigEndian.{signed32};
 ghost use Rattle.numbers.specs.Layout.{dc_size, object_size, slot_size};

@@ -1,4 +1,6 @@
 // Open: writes a fresh flat record and clears the panel and the stock pixel.
+#![tactic(auto)]
+
 ghost use Rattle.std.specs.Prelude.{[], ◌∷◌, ◌≡◌, length};
 ghost use Rattle.gdi.specs.Record.{fresh};
 ghost use Rattle.numbers.specs.Layout.{head_size, record_size};

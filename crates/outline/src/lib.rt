@@ -1,4 +1,6 @@
 // The outline of a box, one pixel thick. No loop is longer than a side of the surface.
+#![tactic(auto)]
+
 ghost use Rattle.std.specs.Prelude.{◌≡◌, ◌*◌, ◌≤◌, ◌<◌, length};
 ghost use Rattle.words.specs.Words.{painted};
 ghost use Rattle.surface.specs.Region.{words_of};
@@ -11,7 +13,7 @@ use color::Rgb565;
 use surface::Drawn;
 
 // The first and the last coordinate of an interval, as far as they lie on a side: from .. second, and last .. to.
-#[derive(Drop)]
+#[derive(Clone, Copy)]
 pub struct Edges {
     pub from: u32,
     pub second: u32,

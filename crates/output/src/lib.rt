@@ -1,11 +1,13 @@
 // A line of output, made piece by piece: text, and numbers in lower-case hexadecimal or in decimal. The caller ensures that
 // there is room.
+#![tactic(auto)]
+
 ghost use Rattle.std.specs.Prelude.{cond, [], ◌∷◌, ◌≡◌, ◌+◌, ◌≤◌, ◌<◌, ◌^◌, length};
 ghost use Rattle.io.specs.Digits.{last_digits};
 ghost use Rattle.output.specs.Lines.{Added, DecimalAdded, SignedAdded};
 
 // The first len bytes are the line so far. The longest line, with a removed DC, has at most 141 bytes with its end.
-#[derive(Drop)]
+#[derive(Clone, Copy)]
 pub struct Line {
     pub bytes: [u8; 160],
     pub len: usize,

@@ -1,4 +1,6 @@
 // P6 pictures: the length of one, and its header.
+#![tactic(auto)]
+
 ghost use Rattle.std.specs.Prelude.{◌≡◌, ◌+◌, ◌≤◌, length};
 ghost use Rattle.p6.specs.P6.{decimal, header, ppm_length};
 ghost use Rattle.p6.specs.Inner.{put};

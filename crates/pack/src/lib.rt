@@ -1,4 +1,6 @@
 // The table of a flat record, written into bytes.
+#![tactic(auto)]
+
 ghost use Rattle.std.specs.Prelude.{true, ◌++◌, ◌≡◌, ◌≤◌, length, drop};
 ghost use Rattle.numbers.specs.Layout.{object_size, slot_size};
 ghost use Rattle.numbers.specs.Block.{is_object, is_slot, slot_of};

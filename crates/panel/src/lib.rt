@@ -1,4 +1,6 @@
 // Panel fill and resize, on a flat record.
+#![tactic(auto)]
+
 ghost use Rattle.std.specs.Prelude.{◌≡◌, true, ◌&&◌, ◌||◌, eqb, length};
 ghost use Rattle.plan.specs.Panel.{panel_fill, resize};
 ghost use Rattle.gdi.specs.Updates.{with_sides};

@@ -1,4 +1,6 @@
 // One entry point for every call, on a flat record.
+#![tactic(auto)]
+
 ghost use Rattle.plan.specs.Answer.{parts_of};
 ghost use Rattle.plan.specs.Calls.{call as asked};
 ghost use Rattle.plan.specs.Followed.{Performed, OnBoth};

@@ -1,4 +1,6 @@
 // A surface as a P6 picture on standard output, for programs. `p6` and `samples` make every byte of it.
+#![tactic(auto)]
+
 ghost use Rattle.std.specs.Prelude.{◌+◌, ◌*◌, ◌≤◌, length};
 
 use libc::STDOUT_FILENO;

@@ -1,4 +1,6 @@
 // Lends a DC's pixels: the part of the panel memory or of the store that is its surface.
+#![tactic(auto)]
+
 ghost use Rattle.std.specs.Prelude.{◌≡◌, length};
 ghost use Rattle.paint.specs.Memories.{memories};
 ghost use Rattle.pixels.specs.Pixels.{place_of, pixels_of, pointer_at, Found};

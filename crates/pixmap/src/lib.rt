@@ -1,4 +1,6 @@
 // A picture's sides and pixels, read from bytes, as a P6 picture.
+#![tactic(auto)]
+
 ghost use Rattle.std.specs.Prelude.{◌≡◌, true, ◌≤◌, length};
 ghost use Rattle.pixmap.specs.Pixmap.{served, is_picture, picture_of};
 ghost use Rattle.p6.specs.Inner.{put};

@@ -1,4 +1,6 @@
 // Finds where a surface lies in the two memories, and which surface a DC paints, in a flat record.
+#![tactic(auto)]
+
 ghost use Rattle.std.specs.Prelude.{◌≡◌, true, ◌+◌, ◌≤◌, length};
 ghost use Rattle.words.specs.Parts.{part};
 ghost use Rattle.numbers.specs.Layout.{object_size, slot_size, kind_place, object_place};
@@ -14,35 +16,35 @@ use gdi::{Dc, DcFound, Found, STOCK_DEFAULT_BITMAP, SelectedBitmap, Spot};
 use numbers::{BITMAP_HEIGHT, COUNT, HEIGHT, KIND, OBJECT, SLOT, SLOTS, WIDTH};
 
 // The two memories that a caller lends.
-#[derive(Drop)]
+#[derive(Clone, Copy)]
 pub enum Memory {
     Panel,
     Store,
 }
 
 // Where a surface lies: the memory, the byte at which its pixels begin, width and height; or nowhere.
-#[derive(Drop)]
+#[derive(Clone, Copy)]
 pub enum Place {
     Nowhere,
     At(Memory, usize, u32, u32),
 }
 
 // The name of a surface: the panel, or the handle of a bitmap, stock or created.
-#[derive(Drop)]
+#[derive(Clone, Copy)]
 pub enum SurfaceId {
     Panel,
     Bitmap(u32),
 }
 
 // Where a surface lies, and the slot of its record if it is a created bitmap.
-#[derive(Drop)]
+#[derive(Clone, Copy)]
 pub struct Site {
     pub at: Place,
     pub slot: Found,
 }
 
 // The surface that a DC paints, its site, and the DC's record.
-#[derive(Drop)]
+#[derive(Clone, Copy)]
 pub enum Target {
     NoDc,
     NoSurface,

@@ -1,9 +1,11 @@
 // The calls on a device and their answers. specs/ defines what each call does, as a plan that is made without reading any pixel.
+#![tactic(auto)]
+
 use color::{Colorref, Rgb565};
 use gdi::GdiObject;
 
 // The w by h pixels at x, y.
-#[derive(Drop)]
+#[derive(Clone, Copy)]
 pub struct Area {
     pub x: i32,
     pub y: i32,
@@ -11,14 +13,14 @@ pub struct Area {
     pub h: i32,
 }
 
-#[derive(Drop)]
+#[derive(Clone, Copy)]
 pub struct Point {
     pub x: i32,
     pub y: i32,
 }
 
 // A call on a device. Handles are numbers, and any number can be passed for one. A text's units are passed beside the call.
-#[derive(Drop)]
+#[derive(Clone, Copy)]
 pub enum Call {
     CreateMemoryDc,
     CreateCompatibleBitmap {
@@ -89,7 +91,7 @@ pub enum Call {
 }
 
 // What a call answers.
-#[derive(Drop)]
+#[derive(Clone, Copy)]
 pub enum Answer {
     // The number of the refusal.
     Refused(u32),

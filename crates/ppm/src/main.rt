@@ -1,4 +1,6 @@
 // Reads a picture's sides and pixels from standard input, and writes it as a P6 picture, or `no picture`.
+#![tactic(auto)]
+
 use libc::{STDIN_FILENO, STDOUT_FILENO};
 
 // Reads the input, and one byte more if it is too long.

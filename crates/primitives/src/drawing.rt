@@ -14,7 +14,7 @@ const MOST_UNITS: usize = 65_600;
 const LONGEST_SOURCE: usize = 8_192;
 
 // A box on a surface.
-#[derive(Drop)]
+#[derive(Clone, Copy)]
 struct Area {
     x: i32,
     y: i32,
@@ -23,7 +23,7 @@ struct Area {
 }
 
 // A blit's box: where to, where from, how much.
-#[derive(Drop)]
+#[derive(Clone, Copy)]
 pub struct Route {
     pub dx: i32,
     pub dy: i32,

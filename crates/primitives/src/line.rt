@@ -4,7 +4,7 @@ ghost use Rattle.std.specs.Prelude.{◌≡◌, ◌<◌};
 use output::Line;
 
 // What a case prints, and its length in the script; a length of 0 says that the case is bad.
-#[derive(Drop)]
+#[derive(Clone, Copy)]
 pub struct Reply {
     pub size: usize,
     pub line: Line,

@@ -1,5 +1,7 @@
 // Runs a list of cases (docs/primitive-cases.md) with the proved functions, and prints an answer to each or the final picture. The
 // libraries' contracts say what is drawn; the functions of this program are proved to be safe and to end.
+#![tactic(auto)]
+
 mod colors;
 mod drawing;
 mod line;
@@ -21,7 +23,7 @@ const MAGIC: u32 = 0x5052_4D32;
 const HEADER: usize = 5;
 
 // What a script asks for.
-#[derive(Drop)]
+#[derive(Clone, Copy)]
 enum Mode {
     Answers,
     Picture,
@@ -29,7 +31,7 @@ enum Mode {
 }
 
 // How a list of cases ended, and the surface's sides then.
-#[derive(Drop)]
+#[derive(Clone, Copy)]
 struct Ended {
     good: bool,
     surface: Sides,

@@ -10,14 +10,14 @@ use output::Line;
 pub const WORDS: usize = 76_800;
 
 // A surface of w * h words, row after row.
-#[derive(Drop)]
+#[derive(Clone, Copy)]
 pub struct Sides {
     pub w: u32,
     pub h: u32,
 }
 
 // The first len bytes, lent as a surface of these sides, whatever they are.
-#[derive(Drop)]
+#[derive(Clone, Copy)]
 pub struct Lent {
     pub w: u32,
     pub h: u32,
@@ -25,14 +25,14 @@ pub struct Lent {
 }
 
 // What the cases leave: the surface, which begins the memory, and what the operations are lent.
-#[derive(Drop)]
+#[derive(Clone, Copy)]
 pub struct State {
     pub surface: Sides,
     pub lent: Lent,
 }
 
 // A reply, and the state after the case.
-#[derive(Drop)]
+#[derive(Clone, Copy)]
 pub struct Answer {
     pub size: usize,
     pub line: Line,

@@ -1,5 +1,7 @@
 // Combines a run of words with a pattern under a raster table, without a source. PATCOPY and DSTINVERT have loops of their own with
 // the same result.
+#![tactic(auto)]
+
 ghost use Rattle.std.specs.Prelude.{◌≡◌, ◌≤◌, ◌*◌, ◌+◌, length};
 ghost use Rattle.arithmetic.specs.Interval.{between};
 ghost use Rattle.words.specs.Words.{painted};

@@ -1,5 +1,7 @@
 // Combines a run of words with a pattern and a source run under a raster table. The source is in another memory or in the same one.
 // SRCCOPY has loops of its own with the same result.
+#![tactic(auto)]
+
 ghost use Rattle.std.specs.Prelude.{◌≡◌, ◌≤◌, ◌*◌, ◌+◌, length};
 ghost use Rattle.raster_from.specs.Inner.{run_from};
 

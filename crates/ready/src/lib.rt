@@ -1,4 +1,6 @@
 // The check of a flat record, and the refusals shared by every call after open.
+#![tactic(auto)]
+
 ghost use Rattle.std.specs.Prelude.{◌≡◌, true, ◌&&◌, ◌<◌};
 ghost use Rattle.gdi.specs.Lookup.{handle_at};
 ghost use Rattle.numbers.specs.Layout.{count_place};

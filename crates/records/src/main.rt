@@ -1,5 +1,7 @@
 // Tries every call on device records that are read as bytes (docs/record-cases.md), and prints the number with which each record is
 // refused. The functions of this program are proved to be safe and to end; the comparison checks what it prints.
+#![tactic(auto)]
+
 mod read;
 mod same;
 mod tried;

@@ -14,7 +14,7 @@ pub const MOST_LENT: usize = 65_536;
 const HEAD: usize = 56;
 
 // The lengths of the memories lent with a record, and the byte behind it; or a bad one.
-#[derive(Drop)]
+#[derive(Clone, Copy)]
 pub struct Case {
     pub bad: bool,
     pub panel_lent: usize,
@@ -23,21 +23,21 @@ pub struct Case {
 }
 
 // The byte behind a record's slots; or a bad one.
-#[derive(Drop)]
+#[derive(Clone, Copy)]
 pub struct Slots {
     pub bad: bool,
     pub next: usize,
 }
 
 // A slot and the byte behind it, or none.
-#[derive(Drop)]
+#[derive(Clone, Copy)]
 pub enum SlotRead {
     Bad,
     Is(Slot, usize),
 }
 
 // A DC's colours and settings.
-#[derive(Drop)]
+#[derive(Clone, Copy)]
 struct Settings {
     brush: u32,
     pen: u32,

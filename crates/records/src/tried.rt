@@ -15,7 +15,7 @@ const TRIES: u8 = 21;
 const UNITS: [u16; 3] = [0x52, 0x41, 0x56];
 
 // How the calls refuse a record: with 9, with 8, or 0 for neither; a refused call changed something; the calls do not agree.
-#[derive(Drop)]
+#[derive(Clone, Copy)]
 pub enum Verdict {
     Number(u32),
     Changed,
@@ -23,7 +23,7 @@ pub enum Verdict {
 }
 
 // The CRCs of two memories.
-#[derive(Drop)]
+#[derive(Clone, Copy)]
 struct Crcs {
     panel: u32,
     store: u32,

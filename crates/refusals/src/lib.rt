@@ -1,5 +1,6 @@
 // The numbers with which operations and calls are refused, each once. Names and numbers are those of the host crate and its C
 // header.
+#![tactic(auto)]
 
 // There is no such DC.
 pub const NO_DC: u32 = 1;

@@ -1,4 +1,6 @@
 // Removes an object from the table of a flat record, and its pixels from the store.
+#![tactic(auto)]
+
 ghost use Rattle.std.specs.Prelude.{◌≡◌, true, ◌<◌, length};
 ghost use Rattle.numbers.specs.Layout.{count_place};
 ghost use Rattle.numbers.specs.Block.{at};

@@ -1,5 +1,7 @@
 // Performs a call script (docs/call-script.md) with the proved library and prints what happened, or with the argument `ppm` writes
 // the panel's picture. The library's contracts say what a call does; the functions of this program are proved to be safe and to end.
+#![tactic(auto)]
+
 mod answer;
 mod object;
 mod session;

@@ -1,4 +1,6 @@
 // The RGB555 word of other bitmaps, from and to the RGB565 word that pixels hold.
+#![tactic(auto)]
+
 ghost use Rattle.std.specs.Prelude.{◌≡◌};
 ghost use Rattle.color.specs.Color.{from555, to555};
 

@@ -1,5 +1,7 @@
 // Ternary raster operations (ROP3). The table byte of a code gives the result bit for each combination of a pattern, a source and a
 // destination bit. The other bits of a code have no effect, so there are 256 operations.
+#![tactic(auto)]
+
 ghost use Rattle.std.specs.Prelude.{◌≡◌, ℕ, ◌+◌, ◌*◌, ◌<◌};
 ghost use Rattle.rop3.specs.Rop3.{bit, table_of, applied, uses_src, uses_dst};
 ghost use Rattle.rop3.specs.Inner.{pick};

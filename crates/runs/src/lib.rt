@@ -1,5 +1,7 @@
 // Fills, zeroes and inverts a run of words: the loops over one row under every drawing. A run is the n words from word d on; the
 // caller guarantees that it lies within the memory.
+#![tactic(auto)]
+
 ghost use Rattle.std.specs.Prelude.{◌≡◌, ◌≤◌, ◌*◌, ◌+◌, ◌-◌, length};
 ghost use Rattle.arithmetic.specs.Interval.{between};
 ghost use Rattle.words.specs.Words.{painted, word};

@@ -1,4 +1,6 @@
 // Pixels as RGBA bytes and as a P6 picture.
+#![tactic(auto)]
+
 ghost use Rattle.std.specs.Prelude.{◌≡◌, ◌+◌, ◌*◌, ◌≤◌, ◌<◌, length};
 ghost use Rattle.p6.specs.P6.{ppm_length};
 ghost use Rattle.p6.specs.Inner.{put};

@@ -1,10 +1,12 @@
 // Saving the table of a record.
+#![tactic(auto)]
+
 ghost use Rattle.std.specs.Prelude.{◌≡◌};
 ghost use Rattle.save.specs.Save.{Saved};
 
 // The refusal's number, 0 if the table was saved, and the table's length in bytes, 0 if refused.
 #[repr(C)]
-#[derive(Drop)]
+#[derive(Clone, Copy)]
 pub struct Saving {
     pub refusal: u32,
     pub length: u32,

@@ -1,4 +1,6 @@
 // The fields of a saved table: how many bits each has. specs/ defines the table of a record, and which bytes are a table.
+#![tactic(auto)]
+
 ghost use Rattle.std.specs.Prelude.{◌≡◌};
 ghost use Rattle.bits.specs.Bits.{total};
 ghost use Rattle.saved_table.specs.Table.{widths_of};

@@ -1,4 +1,6 @@
 // A call script's bytes as a header and calls (docs/call-script.md).
+#![tactic(auto)]
+
 ghost use Rattle.std.specs.Prelude.{◌++◌, ◌≡◌, ◌≤◌, ◌<◌, ◌+◌, ◌*◌, length, drop};
 ghost use Rattle.script.specs.Script.{header_in, header_of, point_at, area_at, units_in, script_call, request_call, entry_of, Read};
 
@@ -20,7 +22,7 @@ pub const MAX_UNITS: usize = 70_000;
 // The most bytes that a load and the output of a save may have.
 pub const MAX_BYTES: usize = 16_384;
 
-#[derive(Drop)]
+#[derive(Clone, Copy)]
 pub struct Header {
     // Whether the script has the calls and fields of change requests.
     pub requests: bool,
@@ -31,7 +33,7 @@ pub struct Header {
     pub fill: u8,
 }
 
-#[derive(Drop)]
+#[derive(Clone, Copy)]
 pub enum HeaderRead {
     Bad,
     Is(Header),
@@ -45,7 +47,7 @@ const FIRST_REQUEST: u8 = 0x13;
 
 // The entry at a byte of a script: the end, a bad entry, a look, a call with the place of the byte after it, a load with the place
 // and the number of its bytes, or a save with the length of its output and the place of the byte after it.
-#[derive(Drop)]
+#[derive(Clone, Copy)]
 pub enum CallRead {
     End,
     Bad,

@@ -1,4 +1,6 @@
 // Selection, on a flat record.
+#![tactic(auto)]
+
 ghost use Rattle.std.specs.Prelude.{◌≡◌};
 ghost use Rattle.numbers.specs.View.{view};
 ghost use Rattle.plan.specs.Select.{select_in, selected_of, select_into};

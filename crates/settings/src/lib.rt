@@ -1,4 +1,6 @@
 // The setting calls: each changes one field of a DC in a flat record and returns the old value.
+#![tactic(auto)]
+
 ghost use Rattle.numbers.specs.View.{view};
 ghost use Rattle.plan.specs.Settings.{set_text_color, set_text_align, set_bk_color, set_bk_mode};
 ghost use Rattle.ready.proofs.Ready.{Lent};

@@ -1,4 +1,6 @@
 // Snapshots of the panel, as RGBA bytes and as a P6 picture.
+#![tactic(auto)]
+
 ghost use Rattle.snapshot.specs.Snapshot.{rgba8888, ppm, Snapped};
 
 use numbers::{HEIGHT, WIDTH};

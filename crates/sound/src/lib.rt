@@ -1,4 +1,6 @@
 // Checks the objects of a flat record, and finds where their pixels begin.
+#![tactic(auto)]
+
 ghost use Rattle.std.specs.Prelude.{◌≡◌, true, false, not, ◌&&◌, ◌+◌, ◌*◌, ◌≤◌, eqb, ltb, length};
 ghost use Rattle.words.specs.Parts.{part};
 ghost use Rattle.gdi.specs.Record.{bytes_of};
@@ -98,7 +100,7 @@ fn handle_fits(h: u32) -> bool
 
 // The result of one pass over the slots: `end` is the end of all pixels in the store, or 0 if a slot is malformed or its object
 // unsound; `ascending` says that each handle is greater than the one before, so that all differ, as until handles wrap around.
-#[derive(Drop)]
+#[derive(Clone, Copy)]
 pub struct Scan {
     pub end: usize,
     pub ascending: bool,

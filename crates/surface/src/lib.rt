@@ -1,5 +1,7 @@
 // What the operations on lent pixel bytes share: their answers, their refusals and common definitions. A surface is its pixel bytes
 // with a width and a height.
+#![tactic(auto)]
+
 ghost use Rattle.std.specs.Prelude.{◌≡◌};
 ghost use Rattle.surface.specs.Refusal.{side, refusal, refusal_from};
 
@@ -8,7 +10,7 @@ pub const MAX_SIDE: u32 = 4096;
 
 // The answer of a drawing on lent bytes: the refusal's number, 0 if accepted, and whether it made a dirty mark.
 #[repr(C)]
-#[derive(Drop)]
+#[derive(Clone, Copy)]
 pub struct Drawn {
     pub refusal: u32,
     pub marked: bool,
@@ -16,7 +18,7 @@ pub struct Drawn {
 
 // The answer of a text on lent bytes: the refusal's number, 0 if accepted, and its advance in pixels.
 #[repr(C)]
-#[derive(Drop)]
+#[derive(Clone, Copy)]
 pub struct Advance {
     pub refusal: u32,
     pub advance: u32,

@@ -1,5 +1,7 @@
 // The operations on lent bytes under C names, for programs in other languages. A slice is a pointer and a length there, a
 // colour a struct of its 16 bits. Each makes the surface struct from its parts and passes it on.
+#![tactic(auto)]
+
 ghost use Rattle.fill.specs.Fill.{FillRect, FillRectRop};
 ghost use Rattle.outline.specs.Outline.{StrokeRect};
 ghost use Rattle.blit.specs.Blit.{BlitBytes};

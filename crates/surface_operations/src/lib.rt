@@ -1,4 +1,6 @@
 // The operations on a surface struct. Each takes it apart and calls the function on slice and numbers.
+#![tactic(auto)]
+
 ghost use Rattle.fill.specs.Fill.{FillRect, FillRectRop};
 ghost use Rattle.outline.specs.Outline.{StrokeRect};
 ghost use Rattle.blit.specs.Blit.{BlitBytes};

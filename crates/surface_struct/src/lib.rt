@@ -1,4 +1,6 @@
 // A surface as one struct: its lent pixel bytes with its sides.
+#![tactic(auto)]
+
 #[derive(Drop)]
 pub struct Surface<'a> {
     pub pixels: &'a mut [u8],

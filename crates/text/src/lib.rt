@@ -1,4 +1,6 @@
 // Characters and text in ink: only the pixels of a glyph's set bits are painted.
+#![tactic(auto)]
+
 ghost use Rattle.std.specs.Prelude.{◌≡◌, ◌≤◌, ◌<◌, length};
 ghost use Rattle.words.specs.Words.{painted};
 ghost use Rattle.surface.specs.Region.{words_of};

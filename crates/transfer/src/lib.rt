@@ -1,4 +1,6 @@
 // Blits between two surfaces in either memory. Source pixels are read as they were before the call.
+#![tactic(auto)]
+
 ghost use Rattle.std.specs.Prelude.{◌≡◌, length};
 ghost use Rattle.rop3.specs.Rop3.{table_of};
 ghost use Rattle.blit.specs.Blit.{marks};

@@ -1,4 +1,6 @@
 // The record that a table's bytes hold, written as numbers.
+#![tactic(auto)]
+
 ghost use Rattle.std.specs.Prelude.{◌∷◌, ◌≡◌, true, ◌+◌, ◌≤◌, ◌<◌, ◌^◌, leb, length};
 ghost use Rattle.bits.specs.Bits.{bits_of, numbers_in};
 ghost use Rattle.bits.specs.Inner.{FieldsFit};

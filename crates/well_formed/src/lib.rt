@@ -1,4 +1,6 @@
 // Tests whether numbers are a record: the head, and each slot.
+#![tactic(auto)]
+
 ghost use Rattle.std.specs.Prelude.{◌≡◌, ◌≤◌, length};
 ghost use Rattle.numbers.specs.Layout.{dc_size, object_size, slot_size};
 ghost use Rattle.numbers.specs.Block.{is_dc, is_object, zeros_from, is_slot};

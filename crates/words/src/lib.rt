@@ -1,4 +1,6 @@
 // Reads and stores one little-endian word of a memory.
+#![tactic(auto)]
+
 ghost use Rattle.std.specs.Prelude.{◌≡◌, ◌<◌, ◌*◌, ◌+◌, ◌/◌, ◌%◌, length, set};
 ghost use Rattle.words.specs.Words.{word};
 
