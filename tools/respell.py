@@ -61,9 +61,10 @@ def table():
         groups[new.get(name, name)].add(name)
     for name, olds in groups.items():
         if len(olds) > 1 or (name in of_kit and olds & set(new)):
-            # The definition keeps the name: it is the one in camel case, or else the one in specs/.
+            # The definition keeps the name: it is the one in camel case, or the one that port.py made of one in camel case.
+            keeps = [old for old in olds if re.search(r"[a-z0-9][A-Z]", old)] or [name]
             for old in olds:
-                if not re.search(r"[a-z0-9][A-Z]", old):
+                if old not in keeps:
                     new[old] = name + "_lem"
     new = {old: it for old, it in new.items() if old not in of_kit}
     return new, where

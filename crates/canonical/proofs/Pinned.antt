@@ -22,7 +22,7 @@ use Rattle.gdi.specs.declared.GdiState.{GdiState}
 use Rattle.gdi.specs.declared.Slot.{Slot}
 use Rattle.gdi.specs.Lookup.{slot_at}
 use Rattle.numbers.specs.Layout.{dc_size, object_size, slot_size, head_size, panel_len_place, store_len_place, width_place, height_place, frames_low_place, frames_high_place, next_handle_place, stock_dirty_place, count_place, screen_place, slots_place, slot_place, kind_place, object_place, surface_in, present_in, bitmap_in, bk_transparent_in, pos_x_in, pos_y_in, bitmap_width_in, bitmap_height_in, bitmap_dirty_in, font_height_in, bitmap_size, brush_size, pen_size, font_size}
-use Rattle.numbers.specs.Block.{present_number, bitmap_number, complement32, kind_number, at, flag_of, is_flag, flag_number, surface_of, bitmap_of, dc_fields, is_dc, object_of, zeros_from, is_object, ObjectCoded, slot_of_lem, is_slot}
+use Rattle.numbers.specs.Block.{present_number, bitmap_number, complement32, kind_number, at, flag_of, is_flag, flag_number, surface_of, bitmap_of, dc_fields, is_dc, object_of, zeros_from, is_object, ObjectCoded, slot_of, is_slot}
 use Rattle.numbers.specs.View.{view, is_record, Updated}
 use Rattle.numbers.proofs.Block.{surface_number, no_kind, dc_numbers}
 use Rattle.numbers.proofs.Record.{parts}
@@ -149,7 +149,7 @@ object_back (suc (suc (suc (suc (suc k))))) l b t i lt = absurd (unknown_kind k 
 abbrev slot_numbers : Slot → List ℕ
 slot_numbers s = s.handle ∷ kind_number s.object ∷ object_numbers s.object
 
-slot_back_lem : (l : List ℕ) → ((k : ℕ) → k < slot_size → at l k < 2 ^ 32) → is_slot l ≡ true → (i : ℕ) → i < slot_size → at l i ≡ at (slot_numbers (slot_of_lem l)) i
+slot_back_lem : (l : List ℕ) → ((k : ℕ) → k < slot_size → at l k < 2 ^ 32) → is_slot l ≡ true → (i : ℕ) → i < slot_size → at l i ≡ at (slot_numbers (slot_of l)) i
 slot_back_lem l b t zero lt = refl
 slot_back_lem l b t (suc zero) lt = kind_back (at l kind_place) (part l object_place object_size) t
 slot_back_lem l b t (suc (suc i)) lt =

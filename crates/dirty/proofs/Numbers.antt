@@ -7,7 +7,7 @@ use Rattle.gdi.specs.declared.GdiObject.TheVariants.{Bitmap as BitmapOf}
 use Rattle.gdi.specs.Lookup.{slot_at, handle_at, object_at}
 use Rattle.gdi.specs.Updates.{with_stock_dirty, with_objects}
 use Rattle.numbers.specs.Layout.{dc_size, object_size, slot_size, frames_low_place, frames_high_place, stock_dirty_place, count_place, screen_place, slot_place, handle_place, kind_place, object_place, bitmap_dirty_in}
-use Rattle.numbers.specs.Block.{bitmap_fields, at, is_dc, is_object, slot_of_lem, ObjectCoded}
+use Rattle.numbers.specs.Block.{bitmap_fields, at, is_dc, is_object, slot_of, ObjectCoded}
 use Rattle.numbers.specs.View.{view, is_record, Updated}
 use Rattle.numbers.proofs.Block.{SlotCoded}
 use Rattle.numbers.proofs.Record.{parts}
@@ -92,13 +92,13 @@ module _ (l : List ℕ) (r : is_record l ≡ true) (i : ℕ) (lt : i < at l coun
       slot : List ℕ
       slot = part l (slot_place i) slot_size
 
-      seen : slot_at (view l) i ≡ slot_of_lem slot
+      seen : slot_at (view l) i ≡ slot_of slot
       seen = slot_seen l i lt (omega (arith, (parts l r).few))
 
       kind : at slot kind_place ≡ 1 → ⊥
       kind e = ne (sym (part_at l (slot_place i) slot_size kind_place (omega arith)) ∙ e)
 
-      same : slot_of_lem slot ≡ slot_dirtied (slot_of_lem slot)
+      same : slot_of slot ≡ slot_dirtied (slot_of slot)
       same =
           ap (λ (o : GdiObject). record { handle = at slot handle_place; object = o })
           (by_kind (at slot kind_place) (part slot object_place object_size) (λ o. o ≡ object_dirtied o) (λ e. refl) (λ e. absurd (kind e)) (λ x. refl) (λ x. refl) (λ x. refl))

@@ -11,7 +11,7 @@ use Rattle.gdi.specs.declared.GdiObject.{GdiObject}
 use Rattle.gdi.specs.Record.{vacant_slot}
 use Rattle.gdi.specs.Updates.{with_objects}
 use Rattle.numbers.specs.Layout.{dc_size, slot_size, head_size, record_size, next_handle_place, stock_dirty_place, count_place, screen_place, slot_place}
-use Rattle.numbers.specs.Block.{at, is_dc, slot_of_lem, is_slot}
+use Rattle.numbers.specs.Block.{at, is_dc, slot_of, is_slot}
 use Rattle.numbers.specs.View.{slot_in, slot_table, view, is_record, Updated}
 use Rattle.numbers.proofs.Block.{SlotCoded}
 use Rattle.numbers.proofs.Record.{parts, by_slots}
@@ -45,8 +45,8 @@ module _ (l m l' : List ℕ) (r : is_record l ≡ true) (few : at l count_place 
 
   there : slot_in l' (at l' count_place) (at l count_place) ≡ s
   there =
-      ap (λ (t : Bool). cond t (slot_of_lem (part l' (slot_place (at l count_place)) slot_size)) vacant_slot) (lt-ltb (at l count_place) (at l' count_place) (omega arith))
-      ∙ ap slot_of_lem (slots_kept (at l count_place)) ∙ coded.same
+      ap (λ (t : Bool). cond t (slot_of (part l' (slot_place (at l count_place)) slot_size)) vacant_slot) (lt-ltb (at l count_place) (at l' count_place) (omega arith))
+      ∙ ap slot_of (slots_kept (at l count_place)) ∙ coded.same
 
   table : slot_table l' (at l' count_place) ≡ inserted (slot_table l (at l count_place)) (at l count_place) s
   table =

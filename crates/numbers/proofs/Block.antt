@@ -13,7 +13,7 @@ use Rattle.gdi.specs.declared.DcSurface.TheVariants.{Screen, Memory}
 use Rattle.gdi.specs.declared.Dc.{Dc}
 use Rattle.gdi.specs.declared.GdiObject.TheVariants.{Dc as DcOf}
 use Rattle.gdi.specs.declared.Slot.{Slot}
-use Rattle.numbers.specs.Block.{flag_of, is_flag, flag_number, present_number, bitmap_number, dc_fields, is_dc, object_of, is_object, slot_of_lem, is_slot, ObjectCoded}
+use Rattle.numbers.specs.Block.{flag_of, is_flag, flag_number, present_number, bitmap_number, dc_fields, is_dc, object_of, is_object, slot_of, is_slot, ObjectCoded}
 
 -- the number of a surface: 0 the screen, 1 memory
 abbrev pub surface_number : DcSurface → ℕ
@@ -27,7 +27,7 @@ pub record DcCoded (d : Dc) (l : List ℕ) : Type 0 where
 
 pub record SlotCoded (s : Slot) (l : List ℕ) : Type 0 where
   pub is_slot_lem : is_slot l ≡ true
-  pub same : slot_of_lem l ≡ s
+  pub same : slot_of l ≡ s
 
 -- numbers of no kind are no object
 pub no_kind : (kind : ℕ) (l : List ℕ) → (kind ≡ 0 → ⊥) → (kind ≡ 1 → ⊥) → (kind ≡ 2 → ⊥) → (kind ≡ 3 → ⊥) → (kind ≡ 4 → ⊥) → false ≡ is_object kind l

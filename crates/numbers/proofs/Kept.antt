@@ -17,7 +17,7 @@ use Rattle.gdi.specs.declared.Slot.{Slot}
 use Rattle.gdi.specs.Record.{vacant_slot}
 use Rattle.gdi.specs.Updates.{with_objects}
 use Rattle.numbers.specs.Layout.{dc_size, slot_size, record_size, next_handle_place, stock_dirty_place, count_place, screen_place, slots_place, slot_place}
-use Rattle.numbers.specs.Block.{at, is_dc, slot_of_lem, is_slot}
+use Rattle.numbers.specs.Block.{at, is_dc, slot_of, is_slot}
 use Rattle.numbers.specs.View.{slot_in, slot_table, view, is_record, Updated}
 use Rattle.numbers.proofs.Block.{SlotCoded}
 use Rattle.numbers.proofs.Record.{parts}
@@ -70,7 +70,7 @@ module _ {l l' : List ℕ} {p n : ℕ} (kept : Kept l p n l') where
 
 -- the same slot from the same numbers
 slot_same : (l l' : List ℕ) (c c' j : ℕ) → c' ≡ c → part l' (slot_place j) slot_size ≡ part l (slot_place j) slot_size → slot_in l' c' j ≡ slot_in l c j
-slot_same l l' c c' j e f = ap (λ (x : List ℕ). cond (ltb j c') (slot_of_lem x) vacant_slot) f ∙ ap (λ (m : ℕ). cond (ltb j m) (slot_of_lem (part l (slot_place j) slot_size)) vacant_slot) e
+slot_same l l' c c' j e f = ap (λ (x : List ℕ). cond (ltb j c') (slot_of x) vacant_slot) f ∙ ap (λ (m : ℕ). cond (ltb j m) (slot_of (part l (slot_place j) slot_size)) vacant_slot) e
 
 module _ (l l' : List ℕ) (r : is_record l ≡ true) where
   again : length l' ≡ length l → at l' stock_dirty_place ≤ 1 → at l' count_place ≡ at l count_place → is_dc (part l' screen_place dc_size) ≡ true → ((i : ℕ) → i < at l count_place → is_slot (part l' (slot_place i) slot_size) ≡ true) → is_record l' ≡ true
@@ -108,7 +108,7 @@ module _ (l l' : List ℕ) (r : is_record l ≡ true) where
     other j ne = part_kept kept (slot_place j) slot_size (λ k a b c d. omega arith)
 
     there : slot_in l' (at l' count_place) i ≡ s
-    there = ap (λ (t : Bool). cond t (slot_of_lem (part l' (slot_place i) slot_size)) vacant_slot) (lt-ltb i (at l' count_place) (omega (arith, number count_place (omega arith)))) ∙ coded.same
+    there = ap (λ (t : Bool). cond t (slot_of (part l' (slot_place i) slot_size)) vacant_slot) (lt-ltb i (at l' count_place) (omega (arith, number count_place (omega arith)))) ∙ coded.same
 
     table : slot_table l' (at l' count_place) ≡ set (slot_table l (at l count_place)) i s
     table =

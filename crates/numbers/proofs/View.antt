@@ -14,7 +14,7 @@ use Rattle.gdi.specs.declared.Slot.{Slot}
 use Rattle.gdi.specs.Record.{no_slot, vacant_slot}
 use Rattle.gdi.specs.Lookup.{slot_at}
 use Rattle.numbers.specs.Layout.{slot_size, count_place, slot_place}
-use Rattle.numbers.specs.Block.{at, flag_number, slot_of_lem}
+use Rattle.numbers.specs.Block.{at, flag_number, slot_of}
 use Rattle.numbers.specs.View.{table_from, slot_in, view}
 
 -- the numbers before the screen DC, from the record
@@ -54,10 +54,10 @@ table_same f g same =
     (λ j lt. let b : j < 256 = omega (arith, length_table f 0 256) in table_slot f j b ∙ same j b ∙ sym (table_slot g j b))
 
 -- a slot of an object, and a vacant one
-pub slot_seen : (l : List ℕ) (i : ℕ) → i < at l count_place → i < 256 → slot_at (view l) i ≡ slot_of_lem (part l (slot_place i) slot_size)
+pub slot_seen : (l : List ℕ) (i : ℕ) → i < at l count_place → i < 256 → slot_at (view l) i ≡ slot_of (part l (slot_place i) slot_size)
 unfolding view
-slot_seen l i h b = table_slot (slot_in l (at l count_place)) i b ∙ ap (λ (t : Bool). cond t (slot_of_lem (part l (slot_place i) slot_size)) vacant_slot) (lt-ltb i (at l count_place) h)
+slot_seen l i h b = table_slot (slot_in l (at l count_place)) i b ∙ ap (λ (t : Bool). cond t (slot_of (part l (slot_place i) slot_size)) vacant_slot) (lt-ltb i (at l count_place) h)
 
 pub slot_vacant : (l : List ℕ) (i : ℕ) → at l count_place ≤ i → i < 256 → slot_at (view l) i ≡ vacant_slot
 unfolding view
-slot_vacant l i h b = table_slot (slot_in l (at l count_place)) i b ∙ ap (λ (t : Bool). cond t (slot_of_lem (part l (slot_place i) slot_size)) vacant_slot) (le-ltb i (at l count_place) h)
+slot_vacant l i h b = table_slot (slot_in l (at l count_place)) i b ∙ ap (λ (t : Bool). cond t (slot_of (part l (slot_place i) slot_size)) vacant_slot) (le-ltb i (at l count_place) h)

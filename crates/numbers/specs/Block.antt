@@ -110,8 +110,8 @@ is_object kind l =
     eqb kind 4 && zeros_from l font_size))))
 
 -- The numbers of a slot: handle, kind, and those of the object.
-abbrev pub slot_of_lem : List ℕ → Slot
-slot_of_lem l = record { handle = at l handle_place; object = object_of (at l kind_place) (part l object_place object_size) }
+abbrev pub slot_of : List ℕ → Slot
+slot_of l = record { handle = at l handle_place; object = object_of (at l kind_place) (part l object_place object_size) }
 
 abbrev pub is_slot : List ℕ → Bool
 is_slot l = is_object (at l kind_place) (part l object_place object_size)

@@ -6,7 +6,7 @@ use Rattle.gdi.specs.declared.GdiState.{GdiState}
 use Rattle.gdi.specs.declared.Slot.{Slot}
 use Rattle.gdi.specs.Record.{vacant_slot}
 use Rattle.numbers.specs.Layout.{dc_size, slot_size, record_size, panel_len_place, store_len_place, width_place, height_place, frames_low_place, frames_high_place, next_handle_place, stock_dirty_place, count_place, screen_place, slot_place}
-use Rattle.numbers.specs.Block.{at, flag_of, is_flag, dc_fields, is_dc, slot_of_lem, is_slot}
+use Rattle.numbers.specs.Block.{at, flag_of, is_flag, dc_fields, is_dc, slot_of, is_slot}
 
 -- the m slots f k, f (k + 1), ..
 unfoldable pub table_from : (ℕ → Slot) → (k m : ℕ) → List Slot
@@ -15,7 +15,7 @@ table_from f k (suc m) = f k ∷ table_from f (suc k) m
 
 -- slot i of a record with n objects: the first n slots hold them, the others are vacant, whatever their numbers are
 abbrev pub slot_in : List ℕ → (n i : ℕ) → Slot
-slot_in l n i = cond (ltb i n) (slot_of_lem (part l (slot_place i) slot_size)) vacant_slot
+slot_in l n i = cond (ltb i n) (slot_of (part l (slot_place i) slot_size)) vacant_slot
 
 abbrev pub slot_table : List ℕ → (n : ℕ) → List Slot
 slot_table l n = table_from (slot_in l n) 0 256

@@ -13,7 +13,7 @@ use Rattle.words.proofs.Parts.{length_part, length_with, with_before, with_withi
 use Rattle.gdi.specs.declared.Dc.{Dc}
 use Rattle.gdi.specs.Record.{no_slot, vacant_slot, screen_dc, fresh}
 use Rattle.numbers.specs.Layout.{dc_size, slot_size, head_size, record_size, panel_len_place, store_len_place, width_place, height_place, frames_low_place, frames_high_place, next_handle_place, stock_dirty_place, count_place, screen_place, slots_place, slot_place}
-use Rattle.numbers.specs.Block.{at, is_flag, is_dc, slot_of_lem, is_slot}
+use Rattle.numbers.specs.Block.{at, is_flag, is_dc, slot_of, is_slot}
 use Rattle.numbers.specs.View.{slot_in, slot_table, view, is_record, Updated}
 use Rattle.numbers.proofs.Block.{DcCoded, lent_back, lent_back_lem}
 use Rattle.numbers.proofs.View.{length_table, table_slot}
@@ -56,7 +56,7 @@ module _ (n k w h : ℕ) (l ys : List ℕ) (long : length l ≡ record_size) (le
   restorable = stays_restorable.first n k w h
 
   slot : (i : ℕ) → slot_in whole (at whole count_place) i ≡ vacant_slot
-  slot i = ap (λ (t : Bool). cond t (slot_of_lem (part whole (slot_place i) slot_size)) vacant_slot) (le-ltb i (at whole count_place) (omega (arith, number count_place (omega arith))))
+  slot i = ap (λ (t : Bool). cond t (slot_of (part whole (slot_place i) slot_size)) vacant_slot) (le-ltb i (at whole count_place) (omega (arith, number count_place (omega arith))))
 
   objects : slot_table whole (at whole count_place) ≡ (fresh n k w h).objects
   objects =

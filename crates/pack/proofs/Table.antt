@@ -12,7 +12,7 @@ use Rattle.bits.proofs.Lists.{bytes_put}
 use Rattle.gdi.specs.declared.Slot.{Slot}
 use Rattle.gdi.specs.Lookup.{slot_at}
 use Rattle.numbers.specs.Layout.{slot_size, count_place, slot_place}
-use Rattle.numbers.specs.Block.{at, slot_of_lem, is_slot}
+use Rattle.numbers.specs.Block.{at, slot_of, is_slot}
 use Rattle.numbers.specs.View.{view, is_record}
 use Rattle.numbers.proofs.Record.{parts}
 use Rattle.numbers.proofs.Seen.{count_seen}
@@ -38,21 +38,21 @@ module _ (l out : List ℕ) (r : is_record l ≡ true) (fits : length (saved_tab
 
   -- objects before i are put behind the head, in an output of this length; the n numbers of object i are lent
   module _ {i p : ℕ} {m m' : List ℕ} (n : ℕ) (long : n ≡ slot_size) (lt : i < at l count_place) (same : length m ≡ length out) (same' : length m' ≡ length out) (put : Put m 425 (slots_bits (view l) i) p m') where
-    lent : slot_at (view l) i ≡ slot_of_lem (part l (slot_place i) n)
+    lent : slot_at (view l) i ≡ slot_of (part l (slot_place i) n)
     lent = rw long (slot_read l r i lt)
 
     pub slot_good : is_slot (part l (slot_place i) n) ≡ true
     slot_good = rw long ((parts l r).slots i lt)
 
-    pub slot_room : Room m' p (slot_bits (slot_of_lem (part l (slot_place i) n)))
+    pub slot_room : Room m' p (slot_bits (slot_of (part l (slot_place i) n)))
     slot_room =
-        let e : length (slot_bits (slot_of_lem (part l (slot_place i) n))) ≡ length (slot_bits (slot_at (view l) i)) = ap (λ (s : Slot). length (slot_bits s)) (sym lent) in
+        let e : length (slot_bits (slot_of (part l (slot_place i) n))) ≡ length (slot_bits (slot_at (view l) i)) = ap (λ (s : Slot). length (slot_bits s)) (sym lent) in
         record {
           inside = omega (arith, put.behind, length_next (view l) i, inside (suc i) lt);
           counted = omega (arith, put.behind, length_next (view l) i, few (suc i) lt);
         }
 
-    pub slot_next : {q : ℕ} {m'' : List ℕ} → Put m' p (slot_bits (slot_of_lem (part l (slot_place i) n))) q m'' → Put m 425 (slots_bits (view l) (i + 1)) q m''
+    pub slot_next : {q : ℕ} {m'' : List ℕ} → Put m' p (slot_bits (slot_of (part l (slot_place i) n))) q m'' → Put m 425 (slots_bits (view l) (i + 1)) q m''
     unfolding slots_bits
     slot_next x = rw (add-one i, lent) (put_both put x (omega (arith, inside i (omega arith))))
 

@@ -13,7 +13,7 @@ use Rattle.gdi.specs.declared.Slot.{Slot}
 use Rattle.gdi.specs.Lookup.{slot_at}
 use Rattle.canonical.proofs.Pinned.{Small, dc_back, unknown_kind, kind_back, object_back}
 use Rattle.numbers.specs.Layout.{dc_size, object_size, slot_size, screen_place, width_place, height_place, next_handle_place, count_place, slot_place, kind_place, object_place, handle_place}
-use Rattle.numbers.specs.Block.{at, dc_fields, is_dc, object_of, is_object, slot_of_lem, is_slot, kind_number}
+use Rattle.numbers.specs.Block.{at, dc_fields, is_dc, object_of, is_object, slot_of, is_slot, kind_number}
 use Rattle.numbers.specs.View.{view, is_record}
 use Rattle.numbers.proofs.Record.{parts}
 use Rattle.numbers.proofs.Seen.{part_at, screen_seen}
@@ -48,7 +48,7 @@ abbrev pub named_by : List ℕ → List ℕ
 named_by l = fields (3 ∷ 32 ∷ []) (at l kind_place ∷ at l handle_place ∷ [])
 
 -- then its object's fields
-pub slot_values : (l : List ℕ) → is_slot l ≡ true → slot_bits (slot_of_lem l) ≡ named_by l ++ object_bits (at l kind_place) (part l object_place object_size)
+pub slot_values : (l : List ℕ) → is_slot l ≡ true → slot_bits (slot_of l) ≡ named_by l ++ object_bits (at l kind_place) (part l object_place object_size)
 slot_values l t = rw (← kind_back (at l kind_place) (part l object_place object_size) t)
 
 -- a record's numbers
@@ -65,7 +65,7 @@ module _ (l : List ℕ) (r : is_record l ≡ true) where
       (λ k lt. part_at l 10 13 k lt ∙ ap (at l) (omega arith) ∙ sym (part_at l screen_place dc_size (suc k) (omega arith)))
       ∙ ap (λ (x : Dc). fields dc_widths (dc_values x)) (sym (screen_seen l))
 
-  pub slot_read : (i : ℕ) → i < at l count_place → slot_at (view l) i ≡ slot_of_lem (part l (slot_place i) slot_size)
+  pub slot_read : (i : ℕ) → i < at l count_place → slot_at (view l) i ≡ slot_of (part l (slot_place i) slot_size)
   slot_read i lt = slot_seen l i lt (omega (arith, (parts l r).few))
 
   pub kind_read : (i : ℕ) → i < at l count_place → kind_number (slot_at (view l) i).object ≡ at l (slot_place i + kind_place)

@@ -13,7 +13,7 @@ use Rattle.words.proofs.Parts.{length_part, length_with, with_before, with_withi
 use Rattle.gdi.specs.Record.{no_slot, vacant_slot}
 use Rattle.gdi.specs.Lookup.{slot_at}
 use Rattle.numbers.specs.Layout.{dc_size, slot_size, record_size, next_handle_place, stock_dirty_place, count_place, screen_place, slots_place, slot_place}
-use Rattle.numbers.specs.Block.{at, is_dc, slot_of_lem, is_slot}
+use Rattle.numbers.specs.Block.{at, is_dc, slot_of, is_slot}
 use Rattle.numbers.specs.View.{slot_in, view, is_record, Updated}
 use Rattle.numbers.proofs.Record.{parts, by_slots}
 use Rattle.numbers.proofs.Seen.{part_at}
@@ -113,10 +113,10 @@ module _ (l l' : List ℕ) (r : is_record l ≡ true) (i : ℕ) (lt : i < at l c
 
       by : Dec (j < i) → Dec (j + 1 < at l count_place) → Dec (j < at l count_place) → slot_at (view l') j ≡ get_or (closed_up vacant_slot (view l).objects i 1 (at l count_place)) j no_slot
       by (yes a) b c =
-          slot_seen l' j (omega (arith, down.count)) h ∙ ap slot_of_lem (slot_below j a) ∙ sym (slot_seen l j (omega arith) h)
+          slot_seen l' j (omega (arith, down.count)) h ∙ ap slot_of (slot_below j a) ∙ sym (slot_seen l j (omega arith) h)
           ∙ sym (closed_below vacant_slot (view l).objects i 1 (at l count_place) (omega arith) fits no_slot j a)
       by (no a) (yes b) c =
-          slot_seen l' j (omega (arith, down.count)) h ∙ ap slot_of_lem (slot_above j (omega arith) b) ∙ sym (slot_seen l (j + 1) b (omega (arith, (parts l r).few)))
+          slot_seen l' j (omega (arith, down.count)) h ∙ ap slot_of (slot_above j (omega arith) b) ∙ sym (slot_seen l (j + 1) b (omega (arith, (parts l r).few)))
           ∙ sym (closed_above vacant_slot (view l).objects i 1 (at l count_place) (omega arith) fits no_slot j (omega arith) b)
       by (no a) (no b) (yes c) =
           slot_vacant l' j (omega (arith, down.count)) h

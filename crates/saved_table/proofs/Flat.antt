@@ -20,7 +20,7 @@ use Rattle.gdi.specs.declared.GdiObject.TheVariants.{Dc as DcOf}
 use Rattle.gdi.specs.declared.Slot.{Slot}
 use Rattle.gdi.specs.Lookup.{slot_at}
 use Rattle.numbers.specs.Layout.{dc_size, object_size, slot_size, kind_place, object_place, screen_place, slot_place, next_handle_place}
-use Rattle.numbers.specs.Block.{at, flag_of, flag_number, surface_of, bitmap_of, present_number, bitmap_number, complement32, dc_fields, object_of, is_object, slot_of_lem, is_slot}
+use Rattle.numbers.specs.Block.{at, flag_of, flag_number, surface_of, bitmap_of, present_number, bitmap_number, complement32, dc_fields, object_of, is_object, slot_of, is_slot}
 use Rattle.numbers.specs.View.{view, is_record}
 use Rattle.numbers.proofs.Block.{flag_back}
 use Rattle.numbers.proofs.Record.{parts}
@@ -132,7 +132,7 @@ part_small l p n small k = by (dec_lt k n)
     by (no ge) = rw (get_or-eq_default (part l p n) 0 {n = k} (omega (arith, length-take n (drop p l)))) (omega arith)
 
 module _ (l : List ℕ) (small : Small l) (good : is_record l ≡ true) (sound : ExceptSizes (view l)) (screens : (view l).screen.surface ≡ Screen) where
-  slot_is : (i : ℕ) → i < (view l).count → slot_at (view l) i ≡ slot_of_lem (part l (slot_place i) slot_size)
+  slot_is : (i : ℕ) → i < (view l).count → slot_at (view l) i ≡ slot_of (part l (slot_place i) slot_size)
   unfolding view
   slot_is i lt = slot_seen l i lt (omega (arith, lt, (parts l good).few))
 
@@ -150,7 +150,7 @@ module _ (l : List ℕ) (small : Small l) (good : is_record l ≡ true) (sound :
       let q : List ℕ = part l (slot_place i) slot_size in
       let o : List ℕ = part q object_place object_size in
       let is_slot_lem : is_slot q ≡ true = unfold view in (parts l good).slots i lt in
-      let fits : object_fits (slot_of_lem q).object ≡ true = ap (λ (s : Slot). object_fits s.object) (sym (slot_is i lt)) ∙ fits_below (view l) sound.slots i lt in
+      let fits : object_fits (slot_of q).object ≡ true = ap (λ (s : Slot). object_fits s.object) (sym (slot_is i lt)) ∙ fits_below (view l) sound.slots i lt in
       rw (slot_is i lt) (object_fits_lem (at q kind_place) o (part_small q object_place object_size (part_small l (slot_place i) slot_size small)) is_slot_lem fits)
 
   handle_small : (i : ℕ) → i < (view l).count → (slot_at (view l) i).handle < 2 ^ 32

@@ -10,7 +10,7 @@ use Rattle.words.specs.Parts.{part}
 use Rattle.bits.specs.Bits.{total}
 use Rattle.bits.proofs.Lists.{short_widths}
 use Rattle.numbers.specs.Layout.{object_size, kind_place, object_place, handle_place}
-use Rattle.numbers.specs.Block.{at, is_slot, slot_of_lem}
+use Rattle.numbers.specs.Block.{at, is_slot, slot_of}
 use Rattle.saved_table.specs.Table.{slot_bits}
 use Rattle.pack.specs.Inner.{object_bits, Room, Put}
 use Rattle.pack.proofs.Puts.{length_as, room_fields, put_as, put_both, room_first, room_behind}
@@ -19,7 +19,7 @@ use Rattle.pack.proofs.put_slot.Statement.{statement}
 use Rattle.pack.proofs.put_slot.Tie as tie
 
 -- a slot in two parts
-module _ {m : List ℕ} {p : ℕ} (l : List ℕ) (t : is_slot l ≡ true) (r : Room m p (slot_bits (slot_of_lem l))) where
+module _ {m : List ℕ} {p : ℕ} (l : List ℕ) (t : is_slot l ≡ true) (r : Room m p (slot_bits (slot_of l))) where
   abbrev of_object : List ℕ
   of_object = object_bits (at l kind_place) (part l object_place object_size)
 
@@ -36,7 +36,7 @@ module _ {m : List ℕ} {p : ℕ} (l : List ℕ) (t : is_slot l ≡ true) (r : R
   object-room : {m' : List ℕ} → length m' ≡ length m → Room m' (p + 35) of_object
   object-room e = room_behind (named_by l) of_object two e (omega (arith, named-long))
 
-  both-put : {m' m'' : List ℕ} {q : ℕ} → Put m p (named_by l) (p + 35) m' → Put m' (p + 35) of_object q m'' → Put m p (slot_bits (slot_of_lem l)) q m''
+  both-put : {m' m'' : List ℕ} {q : ℕ} → Put m p (named_by l) (p + 35) m' → Put m' (p + 35) of_object q m'' → Put m p (slot_bits (slot_of l)) q m''
   both-put x y = rw (slot_values l t) (put_both x y named-room.inside)
 
 put-fields-requires : tie.Need-put-fields-requires
