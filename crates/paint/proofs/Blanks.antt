@@ -225,6 +225,7 @@ store_blanked b b' sound panel (Bitmap h) = by (eqb h stock_bitmap) refl
   where
     among : (at : Place) → From 2 at → Within b'.panel_len b'.store_len at → Among 2 (b'.store_len - 2) Store at
     among Nowhere nothing i = no_place
+    among (At PanelMemory q x y) none i = elim none [ ]
     among (At Store q x y) (some le) i = within {q = q} {w = x} {h = y} le (omega (arith, i.fits, le))
 
     by : (t : Bool) → eqb h stock_bitmap ≡ t

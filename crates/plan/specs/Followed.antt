@@ -1,6 +1,6 @@
 -- When a plan was followed, on a flat record lent with its two memories.
 use Rattle.std.specs.Prelude.{List, ◌≡◌, ℕ, length}
-use Rattle.std.specs.Borrow.{Bor}
+use Rattle.std.specs.Borrow.{MutBor}
 use denote.Triple.Both.{Both}
 use Rattle.numbers.specs.View.{view, Updated}
 use Rattle.paint.specs.Memories.{Memories, memories}
@@ -23,7 +23,7 @@ Performed c l ms a l' ms' = Followed (plan_on c l (length ms.panel) (length ms.s
 
 -- A slice lent to a function, as it is at entry and at exit.
 abbrev pub Slice : Type 0
-Slice = Both (Bor (List ℕ)) (Bor (List ℕ))
+Slice = Both (MutBor (List ℕ)) (MutBor (List ℕ))
 
 -- A relation of a record's numbers, the memories and an answer, stated on the slices that a function is lent: the numbers and both
 -- memories (`OnBoth`); the numbers and one memory (`OnStore`, `OnPanel`), for every content of the other; the numbers alone
