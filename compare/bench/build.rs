@@ -1,4 +1,4 @@
-//! Tells cargo where to find the static library, which `rt staticlib surface_ffi`
+//! Tells cargo where to find the static library, which `tools/build surface_ffi_c`
 //! writes.
 
 fn main() {

@@ -1,5 +1,5 @@
 /* The proved device for hosts in C: GDI objects by handle, DCs, raster operations and an RGB565 panel.
-   Link libhost.a, which `rt staticlib host` writes.
+   Link libhost.a, which `tools/build host_c` writes.
 
    A device is RAVINEFORK_RECORD numbers and two memories, the panel's and the pixel store. The host keeps all three and lends them
    to each call; no function keeps a pointer. The memories keep the lengths that they had at open.

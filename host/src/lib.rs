@@ -1,6 +1,6 @@
 //! The proved drawing core for hosts in Rust: GDI objects by handle, DCs, raster
-//! operations and the RGB565 panel, in the static library that `rt staticlib
-//! host` writes.
+//! operations and the RGB565 panel, in the static library that `tools/build
+//! host_c` writes.
 //!
 //! A [`Device`] holds a [`Record`], 4,119 numbers, with a panel memory and a pixel
 //! store, and has a method for each call, with the original's name. A host that

@@ -280,9 +280,9 @@ module _ (b : GdiState) (n k : ℕ) (us : List ℕ) (m : Taint) where
         rectangle = λ dc a s i d z e. rectangle_taint dc a s i d e z;
         text = text_taint;
         line = line_taint;
-        panel_fill_lem = λ c z. unfold paints_of tainted in by_plan (PanelFill c) (accepted_plan (PanelFill c) z) (solid_exact m Panel everywhere c.0);
+        panel_fill = λ c z. unfold paints_of tainted in by_plan (PanelFill c) (accepted_plan (PanelFill c) z) (solid_exact m Panel everywhere c.0);
         resize = resize_taint;
-        pattern_fill_lem = λ dc a rop s i d z e. fill_taint dc a s i d e rop z;
+        pattern_fill = λ dc a rop s i d z e. fill_taint dc a s i d e rop z;
         blit = λ dc a src p rop s q i j d o z u e f. blit_taint dc a s i d e src p rop z q j o u f;
         blit_ignoring = λ dc a src p rop s i d z u e. ignoring_taint dc a s i d e src p rop z u;
         refused = λ c ne. unpainted_plan c (refusals_keep c b n k ne) refl;

@@ -78,10 +78,10 @@ module _ (b : GdiState) (panel_len store_len : ℕ) (units : List ℕ) where
         → Untaints m (taint_by m (Text dc at)) s (text_ink units (unit_count units) at.x at.y)
     pub line : (dc : ℕ) (to : Point) (s : SurfaceId) (i : Site) (d : Dc) → number (LineTo dc to) ≡ 0 → target_of b dc ≡ On s i d
         → Untaints m (taint_by m (LineTo dc to)) s (line_of (position_of d) to)
-    pub panel_fill_lem : (c : Rgb565) → number (PanelFill c) ≡ 0 → Untaints m (taint_by m (PanelFill c)) Panel everywhere
+    pub panel_fill : (c : Rgb565) → number (PanelFill c) ≡ 0 → Untaints m (taint_by m (PanelFill c)) Panel everywhere
     pub resize : (w h : ℕ) → number (Resize w h) ≡ 0 → no_effect b w h ≡ false → Untaints m (taint_by m (Resize w h)) Panel everywhere
     -- under a raster code a drawn pixel is tainted afterwards exactly if the code uses D and the pixel was tainted
-    pub pattern_fill_lem : (dc : ℕ) (a : Area) (rop : ℕ) (s : SurfaceId) (i : Site) (d : Dc) → number (PatternFill dc a rop) ≡ 0 → target_of b dc ≡ On s i d
+    pub pattern_fill : (dc : ℕ) (a : Area) (rop : ℕ) (s : SurfaceId) (i : Site) (d : Dc) → number (PatternFill dc a rop) ≡ 0 → target_of b dc ≡ On s i d
         → Exactly m (taint_by m (PatternFill dc a rop)) s (box_of a) (by_destination m rop s)
     -- or the call is a blit whose code uses S and the pixel's source pixel was tainted before the call
     pub blit : (dc : ℕ) (a : Area) (src : ℕ) (p : Point) (rop : ℕ) (s q : SurfaceId) (i j : Site) (d e : Dc) → number (Blit dc a src p rop) ≡ 0

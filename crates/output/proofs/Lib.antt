@@ -1,2 +1,4 @@
+pub mod Counting
+pub mod Powers
 pub mod Text
 pub mod Signed

@@ -12,7 +12,7 @@ use lib.Seq.{take-suc, take-suc-set, take-length}
 use lib.Signed.{mag}
 use mir.Syntax.{w32}
 use mir.Val.{SFits}
-use Rattle.io.specs.Digits.{last_digits, IsDigitCount}
+use Rattle.output.specs.Digits.{last_digits, IsDigitCount}
 use Rattle.output.specs.declared.Line.{Line}
 use Rattle.output.specs.Lines.{Added, DecimalAdded, sign, SignedAdded}
 

@@ -1,6 +1,6 @@
 -- What a line holds, and what is added to it.
 use Rattle.std.specs.Prelude.{List, [], ◌∷◌, ◌++◌, ◌≡◌, ℕ, ◌+◌, ◌-◌, ◌≤◌, ◌<◌, ℤ, pos, negsuc, nat_abs, take}
-use Rattle.io.specs.Digits.{last_digits, IsDigitCount}
+use Rattle.output.specs.Digits.{last_digits, IsDigitCount}
 use Rattle.output.specs.declared.Line.{Line}
 
 -- the line so far

@@ -2,9 +2,14 @@
 // there is room.
 #![tactic(auto)]
 
+mod number;
+
 ghost use Rattle.std.specs.Prelude.{cond, [], ◌∷◌, ◌≡◌, ◌+◌, ◌≤◌, ◌<◌, ◌^◌, length};
-ghost use Rattle.io.specs.Digits.{last_digits};
+ghost use Rattle.output.specs.Digits.{last_digits};
 ghost use Rattle.output.specs.Lines.{Added, DecimalAdded, SignedAdded};
+
+pub use number::{decimal, hex};
+use std::io;
 
 // The first len bytes are the line so far. The longest line, with a removed DC, has at most 141 bytes with its end.
 #[derive(Clone, Copy)]
@@ -98,7 +103,7 @@ impl Line {
         ensures { Added self n (last_digits 16 n v) result }
     {
         let mut places = [0u8; 16];
-        let k = io::hex(v, n, &mut places);
+        let k = number::hex(v, n, &mut places);
         self.text(&places[..k])
     }
 
@@ -108,7 +113,7 @@ impl Line {
         ensures { DecimalAdded self v result }
     {
         let mut places = [0u8; 20];
-        let k = io::decimal(v, &mut places);
+        let k = number::decimal(v, &mut places);
         self.text(&places[..k])
     }
 
@@ -124,12 +129,12 @@ impl Line {
     }
 
     // Writes the line and a newline, in one call.
-    pub fn print(self)
+    pub fn print(self, rt: &impl Print) -> io::Result<()>
         requires { self.len < 160 }
     {
         let l = self.put(b'\n');
         let n = l.len;
         let bytes = l.bytes;
-        io::write_all(libc::STDOUT_FILENO, &bytes[0..n]);
+        rt.write_all(&bytes[0..n])
     }
 }

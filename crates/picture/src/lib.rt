@@ -3,39 +3,40 @@
 
 ghost use Rattle.std.specs.Prelude.{◌+◌, ◌*◌, ◌≤◌, length};
 
-use libc::STDOUT_FILENO;
+use std::io;
 
 // The widest surface that is written.
 pub const WIDEST: u32 = 4096;
 
 // Writes the surface of these sides that begins the pixels.
-pub fn write(pixels: &[u8], width: u32, height: u32)
+pub fn write(rt: &impl Print, pixels: &[u8], width: u32, height: u32) -> io::Result<()>
     requires width_bound { width ≤ 4096 }
     requires height_in_bounds { 2 * (width * height) ≤ length pixels.now }
 {
-    write_header(width, height);
-    write_rows(pixels, width as usize, height as usize);
+    write_header(rt, width, height)?;
+    write_rows(rt, pixels, width as usize, height as usize)
 }
 
 // Writes the header, which has 29 bytes at most.
-fn write_header(width: u32, height: u32) {
+fn write_header(rt: &impl Print, width: u32, height: u32) -> io::Result<()> {
     let mut bytes = [0u8; 32];
     let n = p6::put_header(&mut bytes, width, height);
-    io::write_all(STDOUT_FILENO, &bytes[0..n]);
+    rt.write_all(&bytes[0..n])
 }
 
 // Writes row after row of the pixels.
-fn write_rows(pixels: &[u8], w: usize, h: usize)
+fn write_rows(rt: &impl Print, pixels: &[u8], w: usize, h: usize) -> io::Result<()>
     requires w_bound { w ≤ 4096 }
     requires h_in_bounds { 2 * (w * h) ≤ length pixels.now }
 {
     for row in 0..h {
-        write_row(pixels, row * w, w);
+        write_row(rt, pixels, row * w, w)?;
     }
+    Ok(())
 }
 
 // Writes the samples of the w words from `first` on.
-fn write_row(pixels: &[u8], first: usize, w: usize)
+fn write_row(rt: &impl Print, pixels: &[u8], first: usize, w: usize) -> io::Result<()>
     requires { (w ≤ 4096) × (2 * (first + w) ≤ length pixels.now) }
 {
     let mut bytes = [0u8; 12_288];
@@ -43,5 +44,5 @@ fn write_row(pixels: &[u8], first: usize, w: usize)
     let end = 2 * (first + w);
     samples::put_rgb_run(&pixels[start..end], w, &mut bytes, 0);
     let n = 3 * w;
-    io::write_all(STDOUT_FILENO, &bytes[0..n]);
+    rt.write_all(&bytes[0..n])
 }

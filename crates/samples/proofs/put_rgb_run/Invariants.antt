@@ -1,0 +1,14 @@
+use mathlib.Core.Path.{◌≡◌}
+use Prim.Native.Nat.{◌-◌, ◌≤◌}
+use lib.ListN.{length}
+use Rattle.words.specs.Words.{word}
+use Rattle.samples.specs.Samples.{rgb}
+use Rattle.p6.specs.Joined.{joined}
+use Rattle.p6.specs.Inner.{put}
+use Rattle.samples.proofs.put_rgb_run.Given as goal
+
+abbrev pub invariant-loop-i : goal.invariant-loop-i
+invariant-loop-i l = (l.out ≡ put l.initial.out l.at (joined (λ j. rgb (word l.pixels j)) l.i)) × ((length l.out ≡ length l.initial.out) × (l.i ≤ l.n))
+
+abbrev pub decreases-loop-i : goal.decreases-loop-i
+decreases-loop-i l = l.n - l.i
