@@ -9,7 +9,7 @@ use Prim.Native.Nat.{ℕ}
 use mathlib.Core.List.{[], ◌∷◌, List}
 use mathlib.Core.Option.{some}
 use seplogic.Ra.Ura.{Ura}
-use seplogic.Ra.TreeShare.{full_share}
+use base.Fraction.{full_share}
 use lib.Dec.{T as Holds}
 use mir.Syntax.{Ty, Fn, named, mut, ty_ref, place, deref, field, copy, rv_opd, seq, assign, return, value_local, local}
 use mir.Val.{Val, Vals, WT, has_ty, vptr, vstruct, of_list}
@@ -82,6 +82,8 @@ module _ (K : Kind) (S : Setting K) where
   function = record {
     lifetimes = 1;
     outlives = [];
+    ty_params = [];
+    givens = 0;
     params = 2;
     locals = local K.ty value_local ∷ local (ty_ref (named 0) mut (pointee (T.the_row).written)) value_local ∷ local K.ty value_local ∷ local K.ty value_local ∷ [];
     body = seq (assign (place 3 []) (rv_opd (copy (place 1 (deref T'.mir ∷ field S.at ∷ [])))))

@@ -8,9 +8,9 @@ use mathlib.Core.Path.{◌≡◌, refl, sym, ap, subst}
 use Prim.Native.Nat.{ℕ}
 use mathlib.Core.List.{[], ◌∷◌, List}
 use seplogic.Ra.Ura.{Ura}
-use seplogic.Ra.TreeShare.{full_share}
+use base.Fraction.{full_share}
 use lib.Dec.{T as Holds}
-use mir.Syntax.{Name, Ty, Fn, named, erased, mut, ty_ref, place, copy, rv_opd, addr_of, aggregate, seq, assign, call, return, value_local, memory_slot, local}
+use mir.Syntax.{Callee, Ty, Fn, named, erased, mut, ty_ref, place, copy, rv_opd, addr_of, aggregate, seq, assign, call, return, value_local, memory_slot, local}
 use mir.Val.{Val, WT, has_ty, vptr, vstruct, of_list}
 use base.Logic.{SProp, ent, sep, emp, id⊢, via, fst∗}
 use base.Fml.{GName, ftrue, flft, flent, fres, fsep, fat}
@@ -18,7 +18,7 @@ use prog.Wp.{Calls, Loops, WpFn, Tables}
 use types.Logic.{Logic, sem}
 use contract.Lifetimes.{Lfts}
 use contract.Monad.{fact}
-use types.Kit.{‵, raw, ◌⊛◌, some, later, ◌$◌, ◌∵◌, !, qed, by, move, keep, use1, use2, use3, split, join, pick, rewrite, fsplit, fjoin, fpick, fpack, suffices, await, done}
+use types.Kit.{‵, raw, ◌⊛◌, some, later, ◌$◌, ◌∵◌, !, qed, by, move, keep, drop, use1, use2, use3, split, join, pick, rewrite, fsplit, fjoin, fpick, fpack, suffices, await, done}
 use types.Tokens.{lft_new, lft_end}
 use types.Run.{look, init, forget, stop, from, load, addr, of_opd, and_then, no_more, assigns, land, returns, enter, alloc1, alloc0, params1, pass1, pass0, free1, free0}
 use types.Part.{agg}
@@ -56,10 +56,12 @@ pub record Answer (K : Kind) : Type 2 where
   pub makes : {M : Type 1} {𝓤 : Ura M} (𝓛 : Logic 𝓤) → Makes 𝓛 row (Is row)
 
 module _ (K : Kind) (S : Setting K) (B : Answer K) where
-  abbrev pub function : Name → Fn
+  abbrev pub function : Callee → Fn
   function g = record {
     lifetimes = 0;
     outlives = [];
+    ty_params = [];
+    givens = 0;
     params = 2;
     locals = local B.ty value_local ∷ local T'.mir value_local ∷ local K.ty value_local ∷ local T'.mir memory_slot ∷ local K.ty value_local ∷ local (ty_ref erased mut (pointee (T.the_row).written)) value_local ∷ local T'.mir value_local ∷ [];
     body = seq (assign (place 3 []) (rv_opd (copy (place 1 []))))
@@ -148,7 +150,7 @@ module _ {M : Type 1} {𝓤 : Ura M} (𝓛 : Logic 𝓤) (K : Kind) (S : Setting
       qed 𝓛 (‵ (flft (α ∷ []) full_share) ∷ ‵ ((MutRef (named 0) (α ∷ []) T.the_row).own_val (lent l γ) (vptr l 0 ∷ [])) ∷ []) ∵
       nothing ! $ owned ! K.row (Is K.row) (K.makes 𝓛) n _ is-n $ fjoin ! $ move ! (2 ∷ 0 ∷ []) $ fjoin ! $ nothing ! $ nothing ! $ move ! (3 ∷ 0 ∷ []) $ join ! $ move ! (0 ∷ 2 ∷ []) $ join ! $ move ! (0 ∷ 1 ∷ []) $ done !
 
-  module _ (C : Calls 𝓤 H) (Λ : Loops 𝓤 H) (fm : FmC 𝓤 H 𝓛.laws C) (g : Name) (known : Triple 𝓤 (C g) (Set 𝓛 K S)) where
+  module _ (C : Calls 𝓤 H) (Λ : Loops 𝓤 H) (fm : FmC 𝓤 H 𝓛.laws C) (g : Callee) (known : Triple 𝓤 (C g) (Set 𝓛 K S)) where
     walk : ent 𝓤 (on_entry 𝓛 (signature K S B) tt tt a vals) (WpFn 𝓤 H C Λ (function K S B g) (vstruct (parts h) ∷ K.val n ∷ []) Post)
     walk =
         qed 𝓛 (‵ ftrue ∷ ‵ (owns (T.the_row ∷ K.row ∷ []) a vals) ∷ []) ∵ enter ! C Λ (function K S B g) (vstruct (parts h) ∷ K.val n ∷ []) _ $
@@ -165,7 +167,7 @@ module _ {M : Type 1} {𝓤 : Ura M} (𝓛 : Logic 𝓤) (K : Kind) (S : Setting
         calls_at ! fm (Set 𝓛 K S) known (to_set l₃ α γ) (and_then ! (load ! (from ! (stop !)) (look ! 4 refl)) (and_then ! (load ! (from ! (stop !)) (look ! 9 refl)) (no_more !))) (λ w.
         use1 𝓛 (later (some (λ (r : K.row.Denot). ((‵ (flft (α ∷ []) full_share) ⊛ ‵ ftrue) ⊛ ‵ (K.row.own_val r (w ∷ []))) ⊛ raw (ensured 𝓛 (set.ended K S) (set.clauses K S 𝓤) (α ∷ [], tt) (lent l₃ γ, (n, tt)) tt r)))) (id⊢ 𝓤 _) $ await ! tt $ pick ! (λ r.
         split ! $ move ! (1 ∷ []) $ use1 𝓛 (some (λ (ws : Lasts (set.ended K S) (α ∷ [], tt) (lent l₃ γ, (n, tt))). ‵ (lasts (set.ended K S) (α ∷ [], tt) (lent l₃ γ, (n, tt)) ws) ⊛ raw (fact 𝓤 ((r ≡ S.old h) × (ws.0 ≡ h'))))) (id⊢ 𝓤 _) $ pick ! (λ ws.
-        split ! $ move ! (1 ∷ []) $ heard ! ((r ≡ S.old h) × (ws.0 ≡ h')) (λ e. fsplit ! $ rewrite ! 0 (λ (d : Dc). ‵ (fres γ ((T.the_row).coded.code d))) e.1 refl $
+        split ! $ move ! (1 ∷ []) $ heard ! ((r ≡ S.old h) × (ws.0 ≡ h')) (λ e. fsplit ! $ fsplit ! $ move ! (1 ∷ []) $ drop ! $ rewrite ! 0 (λ (d : Dc). ‵ (fres γ ((T.the_row).coded.code d))) e.1 refl $
         move ! (2 ∷ []) $ split ! $ move ! (1 ∷ []) $ rewrite ! 0 (λ (x : K.row.Denot). ‵ (K.row.own_val x (w ∷ []))) e.0 refl $
         facts ! K.row (Is K.row) (shows 𝓛 K.row) (S.old h) (w ∷ []) (λ is.
         -- [the token; what says the copy's last value; …; the lender's part; _6; …; _5; …; room for _4; …]
@@ -181,7 +183,7 @@ module _ {M : Type 1} {𝓤 : Ura M} (𝓛 : Logic 𝓤) (K : Kind) (S : Setting
         move ! (14 ∷ 15 ∷ []) $ free1 ! $ move ! (12 ∷ 13 ∷ []) $ free1 ! $ move ! (10 ∷ 11 ∷ []) $ free1 ! $ move ! (0 ∷ 9 ∷ []) $ free1 ! $ move ! (6 ∷ 7 ∷ []) $ free1 ! $ move ! (4 ∷ 5 ∷ []) $ free1 ! $ move ! (2 ∷ 3 ∷ []) $ free1 ! $ free0 ! $
         keep ! [] $ by ! exits))))))))))))))
 
-module _ {M : Type 1} {𝓤 : Ura M} (𝓛 : Logic 𝓤) (K : Kind) (S : Setting K) (B : Answer K) (c : Clauses 𝓤 (ended K S B)) (says : Says K S B 𝓤 c) (g : Name) where
+module _ {M : Type 1} {𝓤 : Ura M} (𝓛 : Logic 𝓤) (K : Kind) (S : Setting K) (B : Answer K) (c : Clauses 𝓤 (ended K S B)) (says : Says K S B 𝓤 c) (g : Callee) where
   open 𝓛 use {H}
 
   walks : (C : Calls 𝓤 H) (Λ : Loops 𝓤 H) → FmC 𝓤 H 𝓛.laws C → Triple 𝓤 (C g) (Set 𝓛 K S) → Walks 𝓛 (ended K S B) (stayed K S B) (WpFn 𝓤 H C Λ (function K S B g)) c

@@ -1,6 +1,5 @@
-// The device under C names, for hosts in other languages. The host keeps the record as numbers and lends it with the two memories.
-// A call is a struct of numbers, a text's units are a slice. In C a slice is a pointer and a length. These functions have no
-// preconditions.
+// The device for hosts in other languages; `host_c` has these functions under C names. The host keeps the record as numbers and
+// lends it with the two memories. A call is a struct of numbers, a text's units are a slice. These functions have no preconditions.
 #![tactic(auto)]
 
 ghost use Rattle.std.specs.Prelude.{◌≡◌};
@@ -17,8 +16,7 @@ use save::Saving;
 use surface::MAX_SIDE;
 
 // Opens a device (`open::open`). Returns the number of the refusal, 0 if the open is accepted.
-#[unsafe(no_mangle)]
-pub extern "C" fn ravinefork_open(
+pub fn ravinefork_open(
     numbers: &mut [u32],
     panel: &mut [u8],
     store: &mut [u8],
@@ -31,8 +29,7 @@ pub extern "C" fn ravinefork_open(
 }
 
 // Performs a call (`perform::perform`). Only a text reads the units.
-#[unsafe(no_mangle)]
-pub extern "C" fn ravinefork_perform(
+pub fn ravinefork_perform(
     numbers: &mut [u32],
     call: HostCall,
     units: &[u16],
@@ -51,8 +48,7 @@ pub extern "C" fn ravinefork_perform(
 }
 
 // Loads a saved table (`load::load`). The panel and the created bitmaps are black afterwards.
-#[unsafe(no_mangle)]
-pub extern "C" fn ravinefork_load(
+pub fn ravinefork_load(
     numbers: &mut [u32],
     bytes: &[u8],
     panel: &mut [u8],
@@ -65,32 +61,28 @@ pub extern "C" fn ravinefork_load(
 }
 
 // Saves the table of the record (`save::save`). Pixels are not saved.
-#[unsafe(no_mangle)]
-pub extern "C" fn ravinefork_save(numbers: &[u32], out: &mut [u8]) -> Saving
+pub fn ravinefork_save(numbers: &[u32], out: &mut [u8]) -> Saving
     ensures { Saved numbers.now out.old result out.new }
 {
     save::save(numbers, out)
 }
 
 // Writes the panel's pixels as R, G, B, 255. Returns the number of the refusal, 0 if the snapshot is written.
-#[unsafe(no_mangle)]
-pub extern "C" fn ravinefork_snapshot_rgba8888(numbers: &[u32], panel: &[u8], out: &mut [u8]) -> u32
+pub fn ravinefork_snapshot_rgba8888(numbers: &[u32], panel: &[u8], out: &mut [u8]) -> u32
     ensures { Snapped rgba8888 numbers.now panel.now out.old result out.new }
 {
     snapshot::snapshot_rgba8888_into(numbers, panel, out)
 }
 
 // Writes the panel as a P6 picture. Returns the number of the refusal, 0 if the snapshot is written.
-#[unsafe(no_mangle)]
-pub extern "C" fn ravinefork_snapshot_ppm(numbers: &[u32], panel: &[u8], out: &mut [u8]) -> u32
+pub fn ravinefork_snapshot_ppm(numbers: &[u32], panel: &[u8], out: &mut [u8]) -> u32
     ensures { Snapped ppm numbers.now panel.now out.old result out.new }
 {
     snapshot::snapshot_ppm(numbers, panel, out)
 }
 
 // The length of a P6 picture of these sides, also where a side is 0; 0 if a side is above 4,096.
-#[unsafe(no_mangle)]
-pub extern "C" fn ravinefork_ppm_len(width: u32, height: u32) -> usize
+pub fn ravinefork_ppm_len(width: u32, height: u32) -> usize
     ensures { result ≡ picture_length width height }
 {
     if width > MAX_SIDE {

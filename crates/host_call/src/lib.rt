@@ -58,6 +58,7 @@ fn from_of(c: HostCall) -> Point
 }
 
 // Returns the call that the numbers encode.
+#[tactic(auto, unfolding(crate::specs::Call::call_of))]
 pub fn call_of(c: HostCall) -> ParsedCall
     ensures { result ≡ call_of c }
 {

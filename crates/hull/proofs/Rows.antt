@@ -1,5 +1,5 @@
 -- The hulls of what a loop draws: rows of pixels, single pixels, regions one after another, and a line by its ends. Assumes nothing.
-use mathlib.Core.Bool.{Bool, true, ◌&&◌, ◌||◌}
+use mathlib.Core.Bool.{Bool, true, ◌&&◌}
 use mathlib.Core.Path.{◌≡◌}
 use Prim.Native.Nat.{ℕ, ◌+◌, ◌-◌, ◌≤◌, ◌<◌, min, max}
 use native.Mathlib.Omega.{arith}
@@ -7,7 +7,6 @@ use Rattle.arithmetic.specs.Interval.{between}
 use Rattle.arithmetic.specs.Test.{any_below}
 use Rattle.arithmetic.proofs.Interval.{between_yes, bounds}
 use Rattle.arithmetic.proofs.Test.{both, together, any_more}
-use Rattle.surface.proofs.Rows.{rect}
 use Rattle.hull.specs.declared.Bounds.{Bounds}
 use Rattle.hull.specs.Hull.{first, end, corners, hull}
 use Rattle.hull.specs.Inner.{join, spanning}
@@ -16,7 +15,6 @@ use Rattle.hull.proofs.Axis.{At, first_at, last_at}
 use Rattle.hull.proofs.Smallest.{is_hull}
 use Rattle.hull.proofs.Union.{of_min, of_max}
 use Rattle.hull.proofs.Hull.{hull_part}
-use Rattle.hull.proofs.Rect.{rect_bounds_lem}
 
 -- Pixels of row y alone, of which the first is at column x0 and the last before x1; there may be gaps between them.
 pub record Row (part : ℕ → ℕ → Bool) (w h x0 x1 y : ℕ) : Type 0 where

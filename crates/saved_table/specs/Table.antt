@@ -1,5 +1,5 @@
 -- The table of a record, as it is saved (document 02, request 02): fields packed most significant bit first.
-use Rattle.std.specs.Prelude.{List, [], ◌∷◌, ◌++◌, ℕ, zero, suc, ◌+◌, cond, eqb}
+use Rattle.std.specs.Prelude.{List, [], ◌∷◌, ◌++◌, ℕ, zero, suc, cond, eqb}
 use Rattle.bits.specs.Bits.{fields, as_bytes}
 use Rattle.gdi.specs.declared.Dc.{Dc}
 use Rattle.gdi.specs.declared.GdiObject.{GdiObject}

@@ -3,7 +3,7 @@ use mathlib.Core.Bool.{false}
 use mathlib.Core.List.{[], ◌∷◌}
 use mathlib.Core.Path.{◌≡◌, refl, sym, ◌∙◌}
 use Prim.Native.Nat.{ℕ}
-use types.Run.{OneOf, miss}
+use types.Run.{OneOf, hit, miss}
 use denote.Enum.Declared.{tag_of}
 use Rattle.gdi.specs.contracts.Kind.{the_type}
 use Rattle.gdi.specs.declared.Dc.{Dc}
@@ -25,6 +25,14 @@ not_other (Brush c) t = refl
 not_other (Pen c) t = refl
 not_other Font t = refl
 not_other Other t = absurd (miss (0 ∷ 1 ∷ 2 ∷ 3 ∷ []) 4 tt t)
+
+-- another kind has one of the tags before the last
+pub taken : (k : Kind) → (k ≡ Other → ⊥) → OneOf (0 ∷ 1 ∷ 2 ∷ 3 ∷ []) (tag_of the_type k)
+taken Bitmap n = hit (0 ∷ 1 ∷ 2 ∷ 3 ∷ []) 0 tt
+taken (Brush c) n = hit (0 ∷ 1 ∷ 2 ∷ 3 ∷ []) 1 tt
+taken (Pen c) n = hit (0 ∷ 1 ∷ 2 ∷ 3 ∷ []) 2 tt
+taken Font n = hit (0 ∷ 1 ∷ 2 ∷ 3 ∷ []) 3 tt
+taken Other n = absurd (n refl)
 
 module _ (b : GdiState) (dc h : ℕ) {k : Kind} (f : k ≡ kind_of b h) where
   pub select_other : k ≡ Other → select_into b dc h ≡ record_only b (answered 0)

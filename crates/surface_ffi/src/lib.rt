@@ -1,5 +1,5 @@
-// The operations on lent bytes under C names, for programs in other languages. A slice is a pointer and a length there, a
-// colour a struct of its 16 bits. Each makes the surface struct from its parts and passes it on.
+// The operations on lent bytes, for programs in other languages; `surface_ffi_c` has these functions under C names. A colour is a
+// struct of its 16 bits. Each makes the surface struct from its parts and passes it on.
 #![tactic(auto)]
 
 ghost use Rattle.fill.specs.Fill.{FillRect, FillRectRop};
@@ -8,8 +8,7 @@ ghost use Rattle.blit.specs.Blit.{BlitBytes};
 ghost use Rattle.text.specs.Ink.{DrawChar, DrawStr};
 
 // fill::fill_rect
-#[unsafe(no_mangle)]
-pub extern "C" fn ravinefork_fill_rect(
+pub fn ravinefork_fill_rect(
     pixels: &mut [u8],
     width: u32,
     height: u32,
@@ -30,8 +29,7 @@ pub extern "C" fn ravinefork_fill_rect(
 }
 
 // fill::fill_rect_rop
-#[unsafe(no_mangle)]
-pub extern "C" fn ravinefork_fill_rect_rop(
+pub fn ravinefork_fill_rect_rop(
     pixels: &mut [u8],
     width: u32,
     height: u32,
@@ -53,8 +51,7 @@ pub extern "C" fn ravinefork_fill_rect_rop(
 }
 
 // outline::stroke_rect
-#[unsafe(no_mangle)]
-pub extern "C" fn ravinefork_stroke_rect(
+pub fn ravinefork_stroke_rect(
     pixels: &mut [u8],
     width: u32,
     height: u32,
@@ -75,8 +72,7 @@ pub extern "C" fn ravinefork_stroke_rect(
 }
 
 // blit::blit_from_bytes_rop
-#[unsafe(no_mangle)]
-pub extern "C" fn ravinefork_blit_from_bytes_rop(
+pub fn ravinefork_blit_from_bytes_rop(
     pixels: &mut [u8],
     width: u32,
     height: u32,
@@ -103,8 +99,7 @@ pub extern "C" fn ravinefork_blit_from_bytes_rop(
 }
 
 // text::draw_char
-#[unsafe(no_mangle)]
-pub extern "C" fn ravinefork_draw_char(
+pub fn ravinefork_draw_char(
     pixels: &mut [u8],
     width: u32,
     height: u32,
@@ -124,8 +119,7 @@ pub extern "C" fn ravinefork_draw_char(
 }
 
 // text::draw_str_u16
-#[unsafe(no_mangle)]
-pub extern "C" fn ravinefork_draw_str_u16(
+pub fn ravinefork_draw_str_u16(
     pixels: &mut [u8],
     width: u32,
     height: u32,

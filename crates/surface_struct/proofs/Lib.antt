@@ -1,5 +1,1 @@
-pub mod Held
-pub mod Param
-pub mod Operation
-pub mod Locals
-pub mod Walks
+pub mod Made

@@ -1,0 +1,7 @@
+-- `open::put_fresh` meets its contract. Assumes nothing.
+use Rattle.open.proofs.Fresh.{fresh_put}
+use Rattle.open.proofs.put_fresh.Goals as goal
+
+pub returns : goal.returns
+returns c =
+    fresh_put c.args.numbers.now c.put_head.new.numbers c.put_dc.new.numbers c.requires c.put_head.ensures c.screen_dc-d.ensures c.put_dc.auto.numbers c.put_dc.ensures

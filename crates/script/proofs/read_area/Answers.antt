@@ -1,0 +1,12 @@
+-- `script::read_area` meets its contract. Assumes nothing.
+use Rattle.script.proofs.Calls.{coordinate}
+use Rattle.script.proofs.read_area.Goals as goal
+
+pub returns : goal.returns
+returns c =
+    rw (
+      coordinate c.read_i32-x.result c.read_i32-x.type_inv c.read_i32-x.ensures,
+      coordinate c.read_i32-y.result c.read_i32-y.type_inv c.read_i32-y.ensures,
+      coordinate c.read_i32-w.result c.read_i32-w.type_inv c.read_i32-w.ensures,
+      coordinate c.read_i32-h.result c.read_i32-h.type_inv c.read_i32-h.ensures,
+    )
