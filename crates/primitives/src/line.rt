@@ -2,6 +2,7 @@
 ghost use Rattle.std.specs.Prelude.{◌≡◌, ◌<◌};
 
 use output::Line;
+use std::io;
 
 // What a case prints, and its length in the script; a length of 0 says that the case is bad.
 #[derive(Clone, Copy)]
@@ -28,10 +29,11 @@ pub fn start(kind: u8) -> Line
 }
 
 // Prints the line with its end, if it is shown.
-pub fn show(l: Line, shown: bool)
+pub fn show(rt: &impl Print, l: Line, shown: bool) -> io::Result<()>
     requires { l.len < 160 }
 {
     if shown {
-        l.print();
+        return l.print(rt);
     }
+    Ok(())
 }

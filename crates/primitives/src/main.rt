@@ -8,13 +8,13 @@ mod line;
 mod memory;
 mod within;
 
-ghost use Rattle.std.specs.Prelude.{◌≡◌, ◌<◌, length};
+ghost use Rattle.std.specs.Prelude.{◌≡◌, ◌<◌, length, IfOk};
 ghost use Rattle.primitives.specs.Cases.{Served, Sound, Fitting, Answered};
 
 use harness::LONGEST;
-use libc::STDOUT_FILENO;
 use line::Reply;
 use memory::{Answer, Sides, State};
+use std::io;
 
 // `PRM2`
 const MAGIC: u32 = 0x5052_4D32;
@@ -38,18 +38,18 @@ struct Ended {
 }
 
 // Reads the script and runs it.
-fn main() {
+fn main(rt: HostRuntime) -> io::Result<()> {
     let mut script = [0u8; LONGEST + 1];
-    let n = harness::read_input(&mut script);
-    run(&script[..n]);
+    let n = harness::read_input(&rt, &mut script)?;
+    run(&rt, &script[..n])
 }
 
 // Runs a whole script.
-fn run(s: &[u8]) {
+fn run(rt: &impl Print, s: &[u8]) -> io::Result<()> {
     match mode_of(s) {
-        Mode::Answers => perform(s, true),
-        Mode::Picture => perform(s, false),
-        Mode::Bad => print_bad_script(),
+        Mode::Answers => perform(rt, s, true),
+        Mode::Picture => perform(rt, s, false),
+        Mode::Bad => print_bad_script(rt),
     }
 }
 
@@ -72,35 +72,36 @@ fn mode_of(s: &[u8]) -> Mode {
 }
 
 // Prints the answers if they are shown, else writes the picture after a script with no bad case.
-fn perform(s: &[u8], shown: bool) {
+fn perform(rt: &impl Print, s: &[u8], shown: bool) -> io::Result<()> {
     let mut mem = [0u8; 2 * memory::WORDS];
-    let ended = run_cases(s, &mut mem, shown);
+    let ended = run_cases(rt, s, &mut mem, shown)?;
     if shown {
-        return;
+        return Ok(());
     }
     if ended.good {
-        picture::write(&mem, ended.surface.w, ended.surface.h);
+        return picture::write(rt, &mem, ended.surface.w, ended.surface.h);
     }
+    Ok(())
 }
 
 // Runs case after case, and prints the answers if they are shown.
-fn run_cases(s: &[u8], mem: &mut [u8], shown: bool) -> Ended
+fn run_cases(rt: &impl Print, s: &[u8], mem: &mut [u8], shown: bool) -> io::Result<Ended>
     requires { length mem.old ≡ 153600 }
-    ensures { Served result.surface }
+    ensures { IfOk result (λ e. Served e.surface) }
 {
     let mut at = HEADER;
     let mut state = memory::first();
     while at < s.len() {
         let given = work_out(&s[at..], mem, state);
         if given.size == 0 {
-            print_bad_case();
-            return end_at(state, false);
+            print_bad_case(rt)?;
+            return Ok(end_at(state, false));
         }
-        line::show(given.line, shown);
+        line::show(rt, given.line, shown)?;
         state = given.state;
         at += given.size;
     }
-    end_at(state, true)
+    Ok(end_at(state, true))
 }
 
 // The end of a list of cases in this state.
@@ -113,13 +114,13 @@ fn end_at(state: State, good: bool) -> Ended
 }
 
 // The whole output for a bad script.
-fn print_bad_script() {
-    io::write_all(STDOUT_FILENO, b"bad script\n");
+fn print_bad_script(rt: &impl Print) -> io::Result<()> {
+    rt.write_all(b"bad script\n")
 }
 
 // The last line for a script with a bad case.
-fn print_bad_case() {
-    io::write_all(STDOUT_FILENO, b"bad case\n");
+fn print_bad_case(rt: &impl Print) -> io::Result<()> {
+    rt.write_all(b"bad case\n")
 }
 
 // The answer to the case at the front of c.

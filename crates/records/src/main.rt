@@ -10,25 +10,26 @@ ghost use Rattle.std.specs.Prelude.{◌≡◌, length};
 ghost use Rattle.numbers.specs.Layout.{record_size};
 
 use harness::LONGEST;
+use std::io;
 use tried::Verdict;
 
 // `REC2`
 const MAGIC: u32 = 0x5245_4332;
 
 // Reads the stream, and tries its records.
-fn main() {
+fn main(rt: HostRuntime) -> io::Result<()> {
     let mut stream = [0u8; LONGEST + 1];
-    let n = harness::read_input(&mut stream);
-    run(&stream[..n]);
+    let n = harness::read_input(&rt, &mut stream)?;
+    run(&rt, &stream[..n])
 }
 
 // Tries the records of a whole stream.
-fn run(s: &[u8]) {
+fn run(rt: &impl Print, s: &[u8]) -> io::Result<()> {
     if begins_well(s) {
         let mut numbers = [0u32; numbers::RECORD];
-        try_all(s, &mut numbers);
+        try_all(rt, s, &mut numbers)
     } else {
-        output::empty().text(b"bad script").print();
+        output::empty().text(b"bad script").print(rt)
     }
 }
 
@@ -44,7 +45,7 @@ fn begins_well(s: &[u8]) -> bool {
 }
 
 // Prints a line for each record, whose numbers are put into `numbers`; a bad record ends the list.
-fn try_all(s: &[u8], numbers: &mut [u32])
+fn try_all(rt: &impl Print, s: &[u8], numbers: &mut [u32]) -> io::Result<()>
     requires { length numbers.old ≡ record_size }
 {
     let mut at: usize = 4;
@@ -52,21 +53,21 @@ fn try_all(s: &[u8], numbers: &mut [u32])
     while at < s.len() {
         let case = read::record(s, at, numbers);
         if case.bad {
-            output::empty().text(b"bad record").print();
-            return;
+            return output::empty().text(b"bad record").print(rt);
         }
-        print_verdict(i, tried::on_memories(numbers, case));
+        print_verdict(rt, i, tried::on_memories(numbers, case))?;
         at = case.next;
         i += 1;
     }
+    Ok(())
 }
 
 // Prints the line of record i.
-fn print_verdict(i: u64, verdict: Verdict) {
+fn print_verdict(rt: &impl Print, i: u64, verdict: Verdict) -> io::Result<()> {
     let line = output::empty().text(b"record ").decimal(i).space();
     match verdict {
-        Verdict::Number(no) => line.decimal(no as u64).print(),
-        Verdict::Changed => line.text(b"changed").print(),
-        Verdict::Divided => line.text(b"divided").print(),
+        Verdict::Number(no) => line.decimal(no as u64).print(rt),
+        Verdict::Changed => line.text(b"changed").print(rt),
+        Verdict::Divided => line.text(b"divided").print(rt),
     }
 }

@@ -15,9 +15,7 @@ pub use surface_struct::Surface;
 pub fn fill_rect<'a>(s: Surface<'a>, x: i32, y: i32, w: i32, h: i32, color: Rgb565) -> Drawn
     ensures { On s.entry (FillRect x y w h color.0) result s.exit.0.now }
 {
-    let width = s.width;
-    let height = s.height;
-    fill::fill_rect(&mut *s.pixels, width, height, x, y, w, h, color)
+    fill::fill_rect(&mut *s.pixels, s.width, s.height, x, y, w, h, color)
 }
 
 // Combines pattern and destination under a raster code at the w by h pixels at x, y. The source operand is 0.
@@ -32,18 +30,14 @@ pub fn fill_rect_rop<'a>(
 ) -> Drawn
     ensures { On s.entry (FillRectRop x y w h pat.0 rop) result s.exit.0.now }
 {
-    let width = s.width;
-    let height = s.height;
-    fill::fill_rect_rop(&mut *s.pixels, width, height, x, y, w, h, pat, rop)
+    fill::fill_rect_rop(&mut *s.pixels, s.width, s.height, x, y, w, h, pat, rop)
 }
 
 // Draws the outline of the w by h pixels at x, y, one pixel thick.
 pub fn stroke_rect<'a>(s: Surface<'a>, x: i32, y: i32, w: i32, h: i32, color: Rgb565) -> Drawn
     ensures { On s.entry (StrokeRect x y w h color.0) result s.exit.0.now }
 {
-    let width = s.width;
-    let height = s.height;
-    outline::stroke_rect(&mut *s.pixels, width, height, x, y, w, h, color)
+    outline::stroke_rect(&mut *s.pixels, s.width, s.height, x, y, w, h, color)
 }
 
 // Blits the w by h pixels at sx, sy of src to dx, dy under a raster code.
@@ -63,12 +57,10 @@ pub fn blit_from_bytes_rop<'a>(
 ) -> Drawn
     ensures { On s.entry (BlitBytes dx dy sx sy w h src.now src_w src_h rop pat.0) result s.exit.0.now }
 {
-    let width = s.width;
-    let height = s.height;
     blit::blit_from_bytes_rop(
         &mut *s.pixels,
-        width,
-        height,
+        s.width,
+        s.height,
         dx,
         dy,
         sx,
@@ -87,16 +79,12 @@ pub fn blit_from_bytes_rop<'a>(
 pub fn draw_char<'a>(s: Surface<'a>, x: i32, y: i32, ch: u32, color: Rgb565) -> Drawn
     ensures { On s.entry (DrawChar x y ch color.0) result s.exit.0.now }
 {
-    let width = s.width;
-    let height = s.height;
-    text::draw_char(&mut *s.pixels, width, height, x, y, ch, color)
+    text::draw_char(&mut *s.pixels, s.width, s.height, x, y, ch, color)
 }
 
 // Draws the text before unit 0 or the end, with its upper left corner at x, y.
 pub fn draw_str_u16<'a>(s: Surface<'a>, x: i32, y: i32, units: &[u16], color: Rgb565) -> Advance
     ensures { On s.entry (DrawStr x y units.now color.0) result s.exit.0.now }
 {
-    let width = s.width;
-    let height = s.height;
-    text::draw_str_u16(&mut *s.pixels, width, height, x, y, units, color)
+    text::draw_str_u16(&mut *s.pixels, s.width, s.height, x, y, units, color)
 }

@@ -1,1 +1,5 @@
-pub mod Made
+pub mod Held
+pub mod Param
+pub mod Operation
+pub mod Locals
+pub mod Walks

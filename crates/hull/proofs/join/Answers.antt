@@ -1,4 +1,5 @@
 -- `hull::join` meets its contract. Assumes nothing.
+use native.Mathlib.Omega.{arith}
 use borrow.Author.Tests.{ne_eqb}
 use Rattle.hull.specs.Inner.{join}
 use Rattle.hull.proofs.join.Goals as goal
@@ -16,6 +17,6 @@ returns-then-b-eq0 c =
 pub returns : goal.returns
 unfolding join
 returns c =
-    let a = ne_eqb c.args.a.right 0 c.if-a-eq0.false in
+    let a = ne_eqb c.args.a.right 0 (λ e. omega arith) in
     let b = ne_eqb c.args.b.right 0 c.if-b-eq0.false in
     rw (a, b) (cc (c.lower.ensures, c.lower-2.ensures, c.higher.ensures, c.higher-2.ensures))

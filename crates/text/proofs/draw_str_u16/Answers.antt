@@ -22,7 +22,7 @@ draw_units-requires c =
     let o = in_order a.width a.height (length a.pixels.now) accepted in
     record {
       in_order = o;
-      n_in_bounds = (c.unit_count-n.ensures.1, omega (arith, c.if-n-le-MAX_UNITS.true));
+      n_in_bounds = (c.unit_count-n.ensures.1, omega arith);
     }
 
 pub returns-then-n-le-MAX_UNITS : goal.returns-then-n-le-MAX_UNITS

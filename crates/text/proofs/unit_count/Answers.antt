@@ -14,7 +14,7 @@ pub loop-i-preserved : goal.loop-i-preserved
 loop-i-preserved c =
     let us = c.args.s.now in
     let i = c.loop-i.i in
-    (omega arith, rw (add-one i) (omega (arith, c.loop-i.invariant.1, count_more us i c.loop-i-test.true c.if-s-i-eq0.false)))
+    (omega arith, rw (add-one i) (omega (arith, c.loop-i.invariant.1, count_more us i c.loop-i-test.true (λ e. omega arith))))
 
 pub returns : goal.returns
 returns c =
