@@ -130,15 +130,15 @@ module _ (e : Entry) (law : Lawful e) where
   unfolding calls_of taint_after
   made_linked l none none = (refl, l)
   made_linked {m = m} l (then {c = c} {s = s} {t = s'} {a = a} x xs) (then {s = t} {t = t'} {a = b} y ys) =
-      let (q, k) = made_linked (step_linked l x y) xs ys in
+      let (q, k) = made_linked {m = taint_on (e.calls c) (device_of s) m} (step_linked l x y) xs ys in
       (ap₂ ◌∷◌ (law.answers c s t s' t' a b (same_record l) x y) q, taint_then m x xs k)
 
   -- equal numbers stay equal
   made_numbers : {m : Taint} {cs : List e.Argument} {s t s' t' : FlatDevice} {rs qs : List e.Answer} → Linked m s t → s.numbers ≡ t.numbers
       → Made e cs s rs s' → Made e cs t qs t' → s'.numbers ≡ t'.numbers
   made_numbers l n none none = n
-  made_numbers l n (then {c = c} {s = s} {t = s'} {a = a} x xs) (then {s = t} {t = t'} {a = b} y ys) =
-      made_numbers (step_linked l x y) (law.numbers c s t s' t' a b (same_record l) n x y) xs ys
+  made_numbers {m = m} l n (then {c = c} {s = s} {t = s'} {a = a} x xs) (then {s = t} {t = t'} {a = b} y ys) =
+      made_numbers {m = taint_on (e.calls c) (device_of s) m} (step_linked l x y) (law.numbers c s t s' t' a b (same_record l) n x y) xs ys
 
   -- a ready device is ready after every list
   pub made_ready : {cs : List e.Argument} {s t : FlatDevice} {rs : List e.Answer} → refuses_all_on s ≡ 0 → Made e cs s rs t → refuses_all_on t ≡ 0

@@ -5,19 +5,19 @@ use Prim.Native.Nat.{ℕ, zero, suc, ◌-◌, ◌≤◌, ◌<◌}
 use native.Mathlib.Decide.{dec_lt}
 use native.Mathlib.Nat.{le_of_suc-le-suc}
 use native.Mathlib.Omega.{arith}
-use Rattle.hull.specs.Hull.{first, end}
+use Rattle.hull.specs.Hull.{first_where, end}
 
 -- a number below n at which f holds
 abbrev pub At : (n : ℕ) → (f : ℕ → Bool) → (i : ℕ) → Type 0
 At n f i = (i < n) × (f i ≡ true)
 
 -- the first one is one of them, and none comes before it
-pub first_at : (n : ℕ) (f : ℕ → Bool) (i : ℕ) → At n f i → (first n f ≤ i) × At n f (first n f)
+pub first_at : (n : ℕ) (f : ℕ → Bool) (i : ℕ) → At n f i → (first_where n f ≤ i) × At n f (first_where n f)
 first_at zero f i a = absurd (omega arith)
 first_at (suc n) f zero a = rw a.1 (omega arith, (omega arith, a.1))
 first_at (suc n) f (suc i) a = by (f 0) refl (first_at n (λ j. f (suc j)) i (le_of_suc-le-suc a.0, a.1))
   where
-    by : (t : Bool) → f 0 ≡ t → (first n (λ j. f (suc j)) ≤ i) × At n (λ j. f (suc j)) (first n (λ j. f (suc j))) → (first (suc n) f ≤ suc i) × At (suc n) f (first (suc n) f)
+    by : (t : Bool) → f 0 ≡ t → (first_where n (λ j. f (suc j)) ≤ i) × At n (λ j. f (suc j)) (first_where n (λ j. f (suc j))) → (first_where (suc n) f ≤ suc i) × At (suc n) f (first_where (suc n) f)
     by true e p = rw e (omega arith, (omega arith, e))
     by false e p = rw e (omega arith, (omega arith, p.1.1))
 

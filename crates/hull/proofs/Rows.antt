@@ -8,7 +8,7 @@ use Rattle.arithmetic.specs.Test.{any_below}
 use Rattle.arithmetic.proofs.Interval.{between_yes, bounds}
 use Rattle.arithmetic.proofs.Test.{both, together, any_more}
 use Rattle.hull.specs.declared.Bounds.{Bounds}
-use Rattle.hull.specs.Hull.{first, end, corners, hull}
+use Rattle.hull.specs.Hull.{first_where, end, corners, hull}
 use Rattle.hull.specs.Inner.{join, spanning}
 use Rattle.hull.specs.Smallest.{Pixel, Touched, some}
 use Rattle.hull.proofs.Axis.{At, first_at, last_at}
@@ -48,7 +48,7 @@ abbrev pub dotted : (x0 n y : ℕ) → (f : ℕ → Bool) → (c r : ℕ) → Bo
 dotted x0 n y f c r = (between x0 (x0 + n) c && f (c - x0)) && between y (y + 1) r
 
 module _ (w h x0 n y : ℕ) (f : ℕ → Bool) (k : ℕ) (at : At n f k) where
-  pub dotted_row : x0 + n ≤ w → y < h → Row (dotted x0 n y f) w h (x0 + first n f) (x0 + end n f) y
+  pub dotted_row : x0 + n ≤ w → y < h → Row (dotted x0 n y f) w h (x0 + first_where n f) (x0 + end n f) y
   dotted_row p q =
       let a = first_at n f k at in
       let b = last_at n f k at in
@@ -56,7 +56,7 @@ module _ (w h x0 n y : ℕ) (f : ℕ → Bool) (k : ℕ) (at : At n f k) where
         fits = omega arith;
         on = q;
         order = omega arith;
-        starts = dot (x0 + first n f) (first n f) (omega arith) a.1;
+        starts = dot (x0 + first_where n f) (first_where n f) (omega arith) a.1;
         ends = dot (x0 + end n f - 1) (end n f - 1) (omega arith) b.1;
         only = λ c r x. only c r x.drawn;
       }
@@ -66,7 +66,7 @@ module _ (w h x0 n y : ℕ) (f : ℕ → Bool) (k : ℕ) (at : At n f k) where
           let from : c - x0 ≡ j = omega arith in
           together (together (between_yes x0 (x0 + n) c (omega arith) (omega arith)) (rw from i.1)) (between_yes y (y + 1) y (omega arith) (omega arith))
 
-      only : (c r : ℕ) → dotted x0 n y f c r ≡ true → ((x0 + first n f ≤ c) × (c < x0 + end n f)) × (r ≡ y)
+      only : (c r : ℕ) → dotted x0 n y f c r ≡ true → ((x0 + first_where n f ≤ c) × (c < x0 + end n f)) × (r ≡ y)
       only c r e =
           let s = both (between x0 (x0 + n) c && f (c - x0)) (between y (y + 1) r) e in
           let t = both (between x0 (x0 + n) c) (f (c - x0)) s.0 in

@@ -6,7 +6,7 @@ use native.Mathlib.Omega.{arith}
 use Rattle.arithmetic.specs.Test.{any_below}
 use Rattle.arithmetic.proofs.Test.{any_at, any_some}
 use Rattle.hull.specs.declared.Bounds.{Bounds}
-use Rattle.hull.specs.Hull.{first, end, in_column, in_row, corners, hull}
+use Rattle.hull.specs.Hull.{first_where, end, in_column, in_row, corners, hull}
 use Rattle.hull.specs.Smallest.{Pixel, HoldsAll, Touched, Smallest, none, some}
 use Rattle.hull.proofs.Axis.{At, first_at, last_at}
 
@@ -82,7 +82,7 @@ module _ (region : ℕ → ℕ → Bool) (w h : ℕ) where
       (p.0, record { on_column = p.1.0; on_row = a.0; drawn = p.1.1 })
 
   abbrev around : Bounds
-  around = corners (first w (in_column region h)) (first h (in_row region w)) (end w (in_column region h)) (end h (in_row region w))
+  around = corners (first_where w (in_column region h)) (first_where h (in_row region w)) (end w (in_column region h)) (end h (in_row region w))
 
   around_holds : HoldsAll region w h around
   around_holds = record {
@@ -96,8 +96,8 @@ module _ (region : ℕ → ℕ → Bool) (w h : ℕ) where
 
   around_touched : {c r : ℕ} → Pixel region w h c r → Touched region w h around
   around_touched {c} {r} p = record {
-    on_left = column_pixel (first w (in_column region h)) (first_at w (in_column region h) c (pixel_column p)).1;
-    on_top = row_pixel (first h (in_row region w)) (first_at h (in_row region w) r (pixel_row p)).1;
+    on_left = column_pixel (first_where w (in_column region h)) (first_at w (in_column region h) c (pixel_column p)).1;
+    on_top = row_pixel (first_where h (in_row region w)) (first_at h (in_row region w) r (pixel_row p)).1;
     on_right = column_pixel (end w (in_column region h) - 1) (last_at w (in_column region h) c (pixel_column p)).1;
     on_bottom = row_pixel (end h (in_row region w) - 1) (last_at h (in_row region w) r (pixel_row p)).1;
   }

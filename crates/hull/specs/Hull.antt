@@ -4,9 +4,9 @@ use Rattle.arithmetic.specs.Test.{any_below}
 use Rattle.hull.specs.declared.Bounds.{Bounds}
 
 -- the first number below n at which f holds; n if there is none
-abbrev pub first : ℕ → (ℕ → Bool) → ℕ
-first zero f = 0
-first (suc n) f = cond (f 0) 0 (suc (first n (λ i. f (suc i))))
+abbrev pub first_where : ℕ → (ℕ → Bool) → ℕ
+first_where zero f = 0
+first_where (suc n) f = cond (f 0) 0 (suc (first_where n (λ i. f (suc i))))
 
 -- one past the last number below n at which f holds; 0 if there is none
 abbrev pub end : ℕ → (ℕ → Bool) → ℕ
@@ -33,5 +33,5 @@ nowhere = corners 0 0 0 0
 unfoldable pub hull : (region : ℕ → ℕ → Bool) → (w h : ℕ) → Bounds
 hull region w h =
     cond (any_below w (in_column region h))
-    (corners (first w (in_column region h)) (first h (in_row region w)) (end w (in_column region h)) (end h (in_row region w)))
+    (corners (first_where w (in_column region h)) (first_where h (in_row region w)) (end w (in_column region h)) (end h (in_row region w)))
     nowhere
