@@ -4,24 +4,26 @@ ghost use Rattle.std.specs.Prelude.{◌≤◌};
 use crate::object;
 use output::Line;
 use plan::Answer;
+use std::io;
 
 // Prints the line of the call of this byte, if it is shown.
-pub fn show(byte: u8, a: Answer, requests: bool, shown: bool) {
+pub fn show(rt: &impl Print, byte: u8, a: Answer, requests: bool, shown: bool) -> io::Result<()> {
     if shown {
-        print(byte, a, requests);
+        return print(rt, byte, a, requests);
     }
+    Ok(())
 }
 
 // Prints the line of the call of this byte, with the fields of change requests if they are asked for.
-fn print(byte: u8, a: Answer, requests: bool) {
+fn print(rt: &impl Print, byte: u8, a: Answer, requests: bool) -> io::Result<()> {
     let l = output::empty()
         .hex2(byte)
         .space()
         .decimal(refusal_in(a) as u64);
     if is_answered(byte) {
-        add(l.space(), byte, a, requests).print();
+        add(l.space(), byte, a, requests).print(rt)
     } else {
-        l.print();
+        l.print(rt)
     }
 }
 

@@ -8,34 +8,49 @@ use numbers::{
     COUNT, FRAMES_HIGH, FRAMES_LOW, HEIGHT, NEXT_HANDLE, SCREEN, SLOT, SLOTS, STOCK_DIRTY, WIDTH,
 };
 use output::Line;
+use std::io;
 
 // Prints a record, and the CRCs of its memories, if they are shown.
-pub fn show(device: &[u32], panel: &[u8], store: &[u8], requests: bool, shown: bool)
+pub fn show(
+    rt: &impl Print,
+    device: &[u32],
+    panel: &[u8],
+    store: &[u8],
+    requests: bool,
+    shown: bool,
+) -> io::Result<()>
     requires { length device.now ≡ record_size }
 {
     if shown {
-        print(device, panel, store, requests);
+        return print(rt, device, panel, store, requests);
     }
+    Ok(())
 }
 
 // Prints a record, with the fields of change requests if they are asked for, and the CRCs of its memories.
-pub fn print(device: &[u32], panel: &[u8], store: &[u8], requests: bool)
+pub fn print(
+    rt: &impl Print,
+    device: &[u32],
+    panel: &[u8],
+    store: &[u8],
+    requests: bool,
+) -> io::Result<()>
     requires { length device.now ≡ record_size }
 {
-    print_counters(device);
-    print_screen(device, requests);
-    print_objects(device, requests);
-    print_crcs(crc32::crc32(panel), crc32::crc32(store));
+    print_counters(rt, device)?;
+    print_screen(rt, device, requests)?;
+    print_objects(rt, device, requests)?;
+    print_crcs(rt, crc32::crc32(panel), crc32::crc32(store))
 }
 
 // Prints a record's numbers.
-fn print_counters(device: &[u32])
+fn print_counters(rt: &impl Print, device: &[u32]) -> io::Result<()>
     requires { length device.now ≡ record_size }
 {
     let frames = frames_of(device[FRAMES_LOW], device[FRAMES_HIGH]);
     let sides = sides(device[WIDTH], device[HEIGHT]);
     let counters = add_counters(sides, frames, device[NEXT_HANDLE]);
-    add_objects(counters, device[STOCK_DIRTY] == 1, device[COUNT]).print();
+    add_objects(counters, device[STOCK_DIRTY] == 1, device[COUNT]).print(rt)
 }
 
 // A frame counter, by its halves.
@@ -77,15 +92,15 @@ fn add_objects(l: Line, stock_dirty: bool, count: u32) -> Line
 }
 
 // Prints the screen DC.
-fn print_screen(device: &[u32], requests: bool)
+fn print_screen(rt: &impl Print, device: &[u32], requests: bool) -> io::Result<()>
     requires { length device.now ≡ record_size }
 {
     let l = output::empty().text(b"dc ").hex8(GDI_SCREEN_DC).space();
-    object::add_dc(l, numbers::dc_of(&device[SCREEN..SLOTS]), requests).print();
+    object::add_dc(l, numbers::dc_of(&device[SCREEN..SLOTS]), requests).print(rt)
 }
 
 // Prints the created objects in order.
-fn print_objects(device: &[u32], requests: bool)
+fn print_objects(rt: &impl Print, device: &[u32], requests: bool) -> io::Result<()>
     requires { length device.now ≡ record_size }
 {
     let count = device[COUNT] as usize;
@@ -93,24 +108,25 @@ fn print_objects(device: &[u32], requests: bool)
         if i < count {
             let p = SLOTS + SLOT * i;
             let e = p + SLOT;
-            print_object(numbers::slot_of(&device[p..e]), requests);
+            print_object(rt, numbers::slot_of(&device[p..e]), requests)?;
         }
     }
+    Ok(())
 }
 
 // Prints an object under its handle.
-fn print_object(slot: Slot, requests: bool) {
+fn print_object(rt: &impl Print, slot: Slot, requests: bool) -> io::Result<()> {
     let l = output::empty().text(b"object ").hex8(slot.handle).space();
     let o = slot.object;
-    object::add(l, o, requests).print();
+    object::add(l, o, requests).print(rt)
 }
 
 // Prints the CRCs of the memories.
-fn print_crcs(panel: u32, store: u32) {
+fn print_crcs(rt: &impl Print, panel: u32, store: u32) -> io::Result<()> {
     output::empty()
         .text(b"crc ")
         .hex8(panel)
         .space()
         .hex8(store)
-        .print();
+        .print(rt)
 }

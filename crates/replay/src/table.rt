@@ -3,6 +3,7 @@ ghost use Rattle.std.specs.Prelude.{◌+◌, ◌≤◌, length};
 
 use crate::answer;
 use save::Saving;
+use std::io;
 
 // The byte of a load, and that of a save.
 const LOAD: u8 = 0x15;
@@ -11,6 +12,7 @@ const SAVE: u8 = 0x16;
 
 // Loads the n bytes of the script from `start` on, and prints the load's line, if it is shown.
 pub fn perform_load(
+    rt: &impl Print,
     s: &[u8],
     start: usize,
     n: usize,
@@ -18,33 +20,46 @@ pub fn perform_load(
     device: &mut [u32],
     panel: &mut [u8],
     store: &mut [u8],
-)
+) -> io::Result<()>
     requires { start + n ≤ length s.now }
 {
     let end = start + n;
     let a = load::load(device, &s[start..end], panel, store);
-    answer::show(LOAD, a, true, shown);
+    answer::show(rt, LOAD, a, true, shown)
 }
 
 // Saves into an output of n bytes, and prints the save's line, if it is shown.
-pub fn perform_save(device: &[u32], n: usize, fill: u8, shown: bool)
+pub fn perform_save(
+    rt: &impl Print,
+    device: &[u32],
+    n: usize,
+    fill: u8,
+    shown: bool,
+) -> io::Result<()>
     requires { n ≤ 16384 }
 {
     let mut out = [0u8; script::MAX_BYTES];
-    save_into(device, &mut out[0..n], fill, shown);
+    save_into(rt, device, &mut out[0..n], fill, shown)
 }
 
 // Fills the output, saves into it, and prints the save's line, if it is shown.
-fn save_into(device: &[u32], out: &mut [u8], fill: u8, shown: bool) {
+fn save_into(
+    rt: &impl Print,
+    device: &[u32],
+    out: &mut [u8],
+    fill: u8,
+    shown: bool,
+) -> io::Result<()> {
     harness::fill(out, fill, 0);
     let saving = save::save(device, out);
     if shown {
-        print_save(saving, crc32::crc32(out));
+        return print_save(rt, saving, crc32::crc32(out));
     }
+    Ok(())
 }
 
 // Prints the line of a save: the table's length, 0 if it is refused, and the checksum of the whole output.
-fn print_save(saving: Saving, checksum: u32) {
+fn print_save(rt: &impl Print, saving: Saving, checksum: u32) -> io::Result<()> {
     output::empty()
         .hex2(SAVE)
         .space()
@@ -53,5 +68,5 @@ fn print_save(saving: Saving, checksum: u32) {
         .decimal(saving.length as u64)
         .space()
         .hex8(checksum)
-        .print();
+        .print(rt)
 }
