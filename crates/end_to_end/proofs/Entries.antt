@@ -11,7 +11,7 @@ use lib.Seq.{take_at}
 use borrow.Author.Tests.{ne_eqb}
 use Rattle.gdi.specs.declared.GdiState.{GdiState}
 use Rattle.numbers.specs.View.{view, is_record}
-use Rattle.canonical.proofs.Pinned.{updated_unique}
+use Rattle.canonical.proofs.Unique.{updated_unique}
 use Rattle.ready.specs.Ready.{common_refusal, common_refusal_on}
 use Rattle.paint.specs.Memories.{Memories}
 use Rattle.paint.specs.Paint.{Paint, after}

@@ -11,7 +11,7 @@ use Rattle.bits.proofs.Lists.{fields_same}
 use Rattle.gdi.specs.declared.Dc.{Dc}
 use Rattle.gdi.specs.declared.Slot.{Slot}
 use Rattle.gdi.specs.Lookup.{slot_at}
-use Rattle.canonical.proofs.Pinned.{Small, dc_back, unknown_kind, kind_back, object_back}
+use Rattle.canonical.proofs.Objects.{Small, dc_back, unknown_kind, kind_back, object_back}
 use Rattle.numbers.specs.Layout.{dc_size, object_size, slot_size, screen_place, width_place, height_place, next_handle_place, count_place, slot_place, kind_place, object_place, handle_place}
 use Rattle.numbers.specs.Block.{at, dc_fields, is_dc, object_of, is_object, slot_of, is_slot, kind_number}
 use Rattle.numbers.specs.View.{view, is_record}

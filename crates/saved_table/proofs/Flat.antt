@@ -26,7 +26,7 @@ use Rattle.numbers.proofs.Block.{flag_back}
 use Rattle.numbers.proofs.Record.{parts}
 use Rattle.numbers.proofs.Seen.{part_at}
 use Rattle.numbers.proofs.View.{slot_seen}
-use Rattle.canonical.proofs.Pinned.{complement_back, unknown_kind}
+use Rattle.canonical.proofs.Objects.{complement_back, unknown_kind}
 use Rattle.sound.specs.Sound.{is_memory, object_fits}
 use Rattle.sound.proofs.Sound.{ExceptSizes}
 use Rattle.sound.proofs.Bytes.{fits_below}

@@ -8,7 +8,7 @@ use lib.ListN.{length-take, length-drop}
 use Rattle.words.specs.Parts.{part}
 use Rattle.bits.specs.Bits.{fields, total}
 use Rattle.bits.proofs.Lists.{short_widths}
-use Rattle.canonical.proofs.Pinned.{Small}
+use Rattle.canonical.proofs.Objects.{Small}
 use Rattle.numbers.specs.Block.{is_object}
 use Rattle.saved_table.specs.Table.{dc_widths}
 use Rattle.pack.specs.Inner.{object_bits}
