@@ -10,9 +10,7 @@ pub fn read_u16(s: &[u8], at: usize) -> u16
     requires { at + 2 ≤ length s.now }
     ensures { result ≡ be16 s.now at }
 {
-    let hi = s[at] as u16;
-    let lo = s[at + 1] as u16;
-    256 * hi + lo
+    u16::from_be_bytes([s[at], s[at + 1]])
 }
 
 // Returns the unsigned number in the four bytes from `at` on.
@@ -20,9 +18,7 @@ pub fn read_u32(s: &[u8], at: usize) -> u32
     requires { at + 4 ≤ length s.now }
     ensures { result ≡ be32 s.now at }
 {
-    let hi = read_u16(s, at) as u32;
-    let lo = read_u16(s, at + 2) as u32;
-    65536 * hi + lo
+    u32::from_be_bytes([s[at], s[at + 1], s[at + 2], s[at + 3]])
 }
 
 // Returns the signed number in the two bytes from `at` on.
@@ -30,11 +26,7 @@ pub fn read_i16(s: &[u8], at: usize) -> i32
     requires { at + 2 ≤ length s.now }
     ensures { result ≡ signed16 (be16 s.now at) }
 {
-    let n = read_u16(s, at);
-    if n < 0x8000 {
-        return n as i32;
-    }
-    ((n as i64) - 0x1_0000) as i32
+    i32::from(read_u16(s, at).cast_signed())
 }
 
 // Returns the signed number in the four bytes from `at` on.
@@ -42,9 +34,5 @@ pub fn read_i32(s: &[u8], at: usize) -> i32
     requires { at + 4 ≤ length s.now }
     ensures { result ≡ signed32 (be32 s.now at) }
 {
-    let n = read_u32(s, at);
-    if n < 0x8000_0000 {
-        return n as i32;
-    }
-    ((n as i64) - 0x1_0000_0000) as i32
+    read_u32(s, at).cast_signed()
 }

@@ -1,4 +1,5 @@
 -- The plan of a blit by its code and by both DCs' targets, and its stroke between two surfaces. Assumes nothing.
+use Rattle.std.specs.Prelude.{Result, Err}
 use mathlib.Core.Bool.{Bool, true, false, not}
 use mathlib.Core.List.{List, [], ◌∷◌}
 use mathlib.Core.Path.{◌≡◌, refl, ◌∙◌, ap, ap₂, subst}
@@ -11,9 +12,10 @@ use Rattle.numbers.specs.View.{view, Updated}
 use Rattle.place.specs.declared.Place.{Place}
 use Rattle.place.specs.declared.Site.{Site}
 use Rattle.place.specs.declared.SurfaceId.{SurfaceId}
+use Rattle.place.specs.declared.NoTarget.{NoTarget}
 use Rattle.place.specs.declared.Target.{Target}
-use Rattle.place.specs.declared.Target.TheVariants.{NoDc, NoSurface, On}
-use Rattle.place.specs.Place.{where_is, target_of}
+use Rattle.refusals.specs.Refusal.{code_of}
+use Rattle.place.specs.Place.{where_is, target_of, on, refusal_of, source_refusal_of}
 use Rattle.place.specs.Inner.{SiteFound}
 use Rattle.dirty.specs.Dirty.{dirtied_if}
 use Rattle.paint.specs.Memories.{Memories}
@@ -26,7 +28,7 @@ use Rattle.plan.specs.Drawing.{on_source, pattern_fill, blitted_at, blit_stroke,
 use Rattle.plan.proofs.Followed.{StrokedOn}
 use Rattle.transfer.specs.Inner.{PlacesApart, transferred}
 use Rattle.transfer.proofs.PlacesApart.{places_apart}
-use Rattle.draw.proofs.Targeted.{Targeted, no_dc, no_surface, on, Sourced, no_source_dc, no_source_surface, from_source}
+use Rattle.draw.proofs.Targeted.{Targeted, no_target, painted, Sourced, no_source, from_source}
 
 -- the two sites that were found
 module _ {b : GdiState} {s q : SurfaceId} {i j : Site} (v : SiteFound b s i) (w : SiteFound b q j) where
@@ -57,27 +59,21 @@ module _ (b : GdiState) (dc : ℕ) (a : Area) (src : ℕ) (p : Point) (rop : ℕ
   as_fill f = rw (← e, not-true t f)
 
   -- the code uses the source: the target is checked first
-  module _ (f : not t ≡ false) {u : Target} (g : u ≡ target_of b dc) where
+  module _ (f : not t ≡ false) {u : Result Target NoTarget} (g : u ≡ target_of b dc) where
     targeted : Targeted (blit b dc a src p rop) b dc (λ s d. on_source b (target_of b src) (blit_on b a p (table_of rop) s d))
     unfolding blit
     targeted = record { plan = rw (← e, not-false t f) }
 
-    pub refused_1 : u ≡ NoDc → blit b dc a src p rop ≡ refuse 1 b
-    refused_1 = no_dc targeted g
-
-    pub refused_2 : u ≡ NoSurface → blit b dc a src p rop ≡ refuse 2 b
-    refused_2 = no_surface targeted g
+    pub refused : (why : NoTarget) → u ≡ Err why → blit b dc a src p rop ≡ refuse (code_of (refusal_of why)) b
+    refused = no_target targeted g
 
     -- then the source is checked
-    module _ {s : SurfaceId} {i : Site} {d : Dc} (h : u ≡ On s i d) {v : Target} (k : v ≡ target_of b src) where
+    module _ {s : SurfaceId} {i : Site} {d : Dc} (h : u ≡ on s i d) {v : Result Target NoTarget} (k : v ≡ target_of b src) where
       sourced : Sourced (on_source b (target_of b src) (blit_on b a p (table_of rop) s d)) b src (blit_on b a p (table_of rop) s d)
       sourced = record { plan = refl }
 
-      pub refused_3 : v ≡ NoDc → blit b dc a src p rop ≡ refuse 3 b
-      refused_3 l = on targeted g h ∙ no_source_dc sourced k l
+      pub source_refused : (why : NoTarget) → v ≡ Err why → blit b dc a src p rop ≡ refuse (code_of (source_refusal_of why)) b
+      source_refused why l = painted targeted g h ∙ no_source sourced k why l
 
-      pub refused_4 : v ≡ NoSurface → blit b dc a src p rop ≡ refuse 4 b
-      refused_4 l = on targeted g h ∙ no_source_surface sourced k l
-
-      pub accepted : {q : SurfaceId} {j : Site} {o : Dc} → v ≡ On q j o → blit b dc a src p rop ≡ blit_on b a p (table_of rop) s d q
-      accepted l = on targeted g h ∙ from_source sourced k l
+      pub accepted : {q : SurfaceId} {j : Site} {o : Dc} → v ≡ on q j o → blit b dc a src p rop ≡ blit_on b a p (table_of rop) s d q
+      accepted l = painted targeted g h ∙ from_source sourced k l

@@ -8,8 +8,8 @@ ghost use Rattle.plan.specs.Drawing.{blit};
 ghost use Rattle.plan.specs.Answer.{parts_of};
 ghost use Rattle.plan.specs.Followed.{Followed, OnBoth};
 
-use place::Target;
 use plan::{Answer, Area, Point};
+use refusals::Refusal;
 
 // Blits from one DC to another. A code that does not use the source makes it a pattern fill, and the source handle is not checked.
 pub fn blit(
@@ -21,28 +21,29 @@ pub fn blit(
     src: u32,
     from: Point,
     rop: u32,
-) -> Answer
+) -> Result<Answer, Refusal>
     requires { Lent numbers.old (length panel.old) (length store.old) }
     ensures { OnBoth (λ n. Followed (blit (view n) dc area src from rop) n) numbers panel store (parts_of result) }
 {
     if !rop3::uses_src(rop) {
         return draw::pattern_fill(numbers, panel, store, dc, area, rop);
     }
-    match place::target_of(numbers, dc) {
-        Target::NoDc => Answer::Refused(refusals::NO_DC),
-        Target::NoSurface => Answer::Refused(refusals::NO_SURFACE),
-        Target::On(id, site, d) => match place::target_of(numbers, src) {
-            Target::NoDc => Answer::Refused(refusals::NO_SOURCE_DC),
-            Target::NoSurface => Answer::Refused(refusals::NO_SOURCE_SURFACE),
-            Target::On(_, source, _) => {
-                let at = site.at;
-                let slot = site.slot;
-                let taken = source.at;
-                let c = color::colorref_to_rgb565(d.brush_color);
-                let due = transfer::blit_at(panel, store, at, taken, area, from, rop, c);
-                dirty::mark_dirty_if(numbers, id, slot, due);
-                Answer::Drawn
-            }
-        },
-    }
+    let target = place::target_of(numbers, dc)?;
+    let source = match place::target_of(numbers, src) {
+        Ok(source) => source,
+        Err(why) => return Err(why.as_source()),
+    };
+    let pattern = color::colorref_to_rgb565(target.dc.brush_color);
+    let due = transfer::blit_at(
+        panel,
+        store,
+        target.site.at,
+        source.site.at,
+        area,
+        from,
+        rop,
+        pattern,
+    );
+    dirty::mark_dirty_if(numbers, target.id, target.site.slot, due);
+    Ok(Answer::Drawn)
 }

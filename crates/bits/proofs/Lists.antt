@@ -1,16 +1,16 @@
 -- Laws of fields one behind the other, of bits packed into bytes, and of the test of equality. Assumes nothing.
-use mathlib.Core.Bool.{true, false, ◌&&◌, true≢false}
+use mathlib.Core.Bool.{true, false, true≢false}
 use mathlib.Core.List.{List, [], ◌∷◌, ◌++◌, append_assoc}
 use mathlib.Core.Path.{◌≡◌, refl, sym, ◌∙◌, ap}
 use Prim.Native.Nat.{ℕ, zero, suc, ◌+◌, ◌*◌, ◌≤◌, ◌<◌, ◌^◌}
 use native.Mathlib.Decide.{dec_lt}
-use native.Mathlib.Nat.{add-zero}
-use native.Mathlib.Numerals.{add-one, one-add}
+use native.Mathlib.Numerals.{one-add}
 use native.Mathlib.Omega.{arith}
 use lib.Dec.{eqb, leb}
 use lib.ListN.{length, get_or, take, drop, replicate, length-replicate, length-append, length-take, length-drop, take-append-drop, get_or-eq_default}
+use lib.Pointwise.{pointwise}
 use lib.Pow.{pow_mono}
-use lib.Seq.{take_at, drop_at, drop-cons, drop-drop, get_or-drop}
+use lib.Seq.{take_at, drop_at, drop-cons, get_or-drop}
 use borrow.Author.Tests.{eqb-true, leb-true, eq-eqb}
 use Rattle.arithmetic.specs.Test.{all_below}
 use Rattle.arithmetic.proofs.Test.{both, each, and-false}
@@ -55,10 +55,6 @@ module _ (ws : List ℕ) (k : ℕ) (lt : k < length ws) where
   pub total_next : total (drop k ws) ≡ get_or ws k 0 + total (drop (suc k) ws)
   unfolding total
   total_next = rw (drop-cons ws k 0 lt)
-
-  pub fields_next : (vs : List ℕ) → fields (drop k ws) (drop k vs) ≡ field (get_or ws k 0) (get_or vs k 0) ++ fields (drop (suc k) ws) (drop (suc k) vs)
-  unfolding fields
-  fields_next vs = rw (drop-cons ws k 0 lt, get_or-drop k vs 0 0, add-zero k, drop-drop 1 k vs, add-one k)
 
   pub numbers_next : (bs : List ℕ) (p : ℕ) → numbers_in (drop k ws) bs p ≡ field_at bs p (get_or ws k 0) ∷ numbers_in (drop (suc k) ws) bs (p + get_or ws k 0)
   unfolding numbers_in
@@ -161,7 +157,10 @@ other_length [] (y ∷ ys) h = refl
 other_length (x ∷ xs) [] h = refl
 other_length (x ∷ xs) (y ∷ ys) h = rw (other_length xs ys (λ e. h (ap suc e))) (and-false (eqb x y))
 
--- the elements of index k, then those behind them
-pub equal_next : (xs ys : List ℕ) (k : ℕ) → k < length xs → k < length ys → equal (drop k xs) (drop k ys) ≡ (eqb (get_or xs k 0) (get_or ys k 0) && equal (drop (suc k) xs) (drop (suc k) ys))
+-- the library's test of slices
+pub equal_pointwise : (xs ys : List ℕ) → pointwise eqb xs ys ≡ equal xs ys
 unfolding equal
-equal_next xs ys k lt lt' = rw (drop-cons xs k 0 lt, drop-cons ys k 0 lt')
+equal_pointwise [] [] = refl
+equal_pointwise [] (y ∷ ys) = refl
+equal_pointwise (x ∷ xs) [] = refl
+equal_pointwise (x ∷ xs) (y ∷ ys) = rw (equal_pointwise xs ys)

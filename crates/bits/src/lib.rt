@@ -18,8 +18,7 @@ fn low_bits(v: u32, n: u32) -> u32
 fn share(at: usize, n: u32) -> u32
     ensures { (result ≤ n) × ((at % 8 + result ≤ 8) × (0 < n → 0 < result)) }
 {
-    let room = 8 - (at % 8) as u32;
-    if n < room { n } else { room }
+    n.min(8 - (at % 8) as u32)
 }
 
 // Returns the number in the n bits from `at` on, which lie in one byte.
@@ -27,7 +26,7 @@ fn bits_at(s: &[u8], at: usize, n: u32) -> u32
     requires { (at < 8 * length s.now) × (at % 8 + n ≤ 8) }
     ensures { result ≡ number_of (part (bits_of s.now) at n) }
 {
-    let byte = s[at / 8] as u32;
+    let byte = u32::from(s[at / 8]);
     low_bits(byte >> (8 - (at % 8) as u32 - n), n)
 }
 
@@ -37,7 +36,7 @@ fn put_bits(out: &mut [u8], at: usize, n: u32, v: u32)
     ensures { bits_of out.new ≡ with_part (bits_of out.old) at n (field n v) }
 {
     let behind = 8 - (at % 8) as u32 - n;
-    let byte = out[at / 8] as u32;
+    let byte = u32::from(out[at / 8]);
     let high = (byte >> behind >> n << n) + low_bits(v, n);
     out[at / 8] = ((high << behind) + low_bits(byte, behind)) as u8;
 }
@@ -49,6 +48,7 @@ pub fn field_at(s: &[u8], at: usize, n: u32) -> u32
 {
     let mut r: u32 = 0;
     let mut k: u32 = 0;
+    // Each part ends with its byte, so k grows by different widths.
     while k < n {
         let p = at + k as usize;
         let m = share(p, n - k);
@@ -65,6 +65,7 @@ pub fn put_field(out: &mut [u8], at: usize, n: u32, v: u32)
 {
     let mut p = at;
     let mut k = n;
+    // Each part ends with its byte, so k falls by different widths.
     while 0 < k {
         let m = share(p, k);
         k -= m;
@@ -88,12 +89,9 @@ pub fn put_fields(out: &mut [u8], at: usize, widths: &[u32], values: &[u32])
     ensures { bits_of out.new ≡ with_part (bits_of out.old) at (total widths.now) (fields widths.now values.now) }
 {
     let mut p = at;
-    let mut i = 0;
-    while i < widths.len() {
-        let n = widths[i];
-        put_field(out, p, n, values[i]);
+    for (&n, &value) in widths.iter().zip(values) {
+        put_field(out, p, n, value);
         p += n as usize;
-        i += 1;
     }
 }
 
@@ -104,28 +102,16 @@ pub fn read_fields(s: &[u8], at: usize, widths: &[u32], values: &mut [u32])
     ensures { values.new ≡ numbers_in widths.now (bits_of s.now) at ++ drop (length widths.now) values.old }
 {
     let mut p = at;
-    let mut i = 0;
-    while i < widths.len() {
-        let n = widths[i];
+    for (i, &n) in widths.iter().enumerate() {
         values[i] = field_at(s, p, n);
         p += n as usize;
-        i += 1;
     }
 }
 
 // Returns whether two slices have the same bytes.
+#[tactic(auto, using(crate::proofs::Lists::equal_pointwise))]
 pub fn is_equal(a: &[u8], b: &[u8]) -> bool
     ensures { result ≡ equal a.now b.now }
 {
-    if a.len() != b.len() {
-        return false;
-    }
-    let mut i = 0;
-    while i < a.len() {
-        if a[i] != b[i] {
-            return false;
-        }
-        i += 1;
-    }
-    true
+    a == b
 }

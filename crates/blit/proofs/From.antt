@@ -8,9 +8,10 @@ use native.Mathlib.Omega.{arith}
 use lib.Dec.{leb}
 use lib.ListN.{length}
 use borrow.Author.Tests.{le-leb, lt-leb}
+use Rattle.std.proofs.lemmas.Bool.Decides.{nat_tests}
 use Rattle.arithmetic.specs.Interval.{between}
 use Rattle.arithmetic.proofs.Interval.{bounds}
-use Rattle.arithmetic.proofs.Test.{both, and-true, and-false, not_left, not_right}
+use Rattle.arithmetic.proofs.Test.{both, and-true, not_left, not_right}
 use Rattle.words.specs.Words.{word, painted}
 use Rattle.words.proofs.Painted.{painted_none, painted_same, painted_cong}
 use Rattle.rop3.specs.Rop3.{applied}
@@ -26,9 +27,7 @@ use Rattle.blit.proofs.Rows.{next_row, fits, in_row, taken_row, below}
 
 -- a test of two parts
 share : (a b c c' : Bool) → (a ≡ true → c ≡ c') → ((a || b) && c) ≡ ((a && c') || (b && c))
-share false b c c' h = refl
-share true b true c' h = rw (sym (h refl))
-share true b false c' h = rw (sym (h refl), and-false b)
+share a b c c' h = grind (arith, nat_tests)
 
 -- a row whose part of the source bytes is there, and one whose part passes their end; q is its source row, as the code computes it
 module _ (box : BlitRect) (W SW table pat y : ℕ) (src m : List ℕ) {q : ℕ} (is : q ≡ box.src_y0 + (y - box.y0)) where
@@ -54,10 +53,6 @@ module _ (box : BlitRect) (W SW table pat y : ℕ) (src m : List ℕ) {q : ℕ} 
   row_passed h =
       painted_none (λ i. on i && leb (2 * (start + columns box)) (length src)) new m (λ i lt. not_right (on i) (lt-leb (2 * (start + columns box)) (length src) h))
       ∙ rw is
-
--- the room does not change while rows are drawn
-pub room_kept : {len len' W SW : ℕ} {box : BlitRect} → len' ≡ len → RoomFrom len W SW box → RoomFrom len' W SW box
-room_kept e h = rw e h
 
 -- rows from other bytes
 module _ (box : BlitRect) (W SW table pat : ℕ) (src m₀ : List ℕ) (room : RoomFrom (length m₀) W SW box) where

@@ -1,45 +1,27 @@
 -- The clipped box, pixel by pixel: it holds the blit's pixels, each drawn from its own source pixel. Assumes nothing.
-use mathlib.Core.Path.{◌≡◌, refl, sym, ◌∙◌, ap}
-use mathlib.Core.Bool.{Bool, true, false, not, true≢false}
+use mathlib.Core.Path.{◌≡◌, sym, ◌∙◌, ap}
+use mathlib.Core.Bool.{Bool, true, false}
 use Prim.Native.Nat.{ℕ, ◌+◌, ◌*◌, ◌-◌, ◌/◌, ◌%◌, ◌≤◌, ◌<◌}
-use native.Mathlib.Decide.{dec_lt}
 use native.Mathlib.Omega.{arith}
-use lib.Dec.{leb, ltb}
-use borrow.Author.Tests.{le-leb, lt-leb, le-ltb, lt-ltb}
+use lib.Dec.{leb}
+use borrow.Author.Tests.{le-leb}
+use Rattle.std.proofs.lemmas.Bool.Decides.{nat_tests}
 use Rattle.arithmetic.specs.Interval.{between}
 use Rattle.arithmetic.specs.Integer.{positive}
 use Rattle.arithmetic.proofs.Interval.{bounds}
-use Rattle.arithmetic.proofs.Test.{both, together}
+use Rattle.arithmetic.proofs.Test.{both}
 use Rattle.clip_blit.specs.declared.BlitRect.{BlitRect}
 use Rattle.clip_blit.specs.Blit.{blit_axis}
 use Rattle.clip_blit.proofs.Blit.{Clipped, blit_clipped, blit_region}
 use Rattle.surface.specs.Region.{words_of, nonempty}
-use Rattle.surface.proofs.Rows.{rect, column_lt, row_lt, row_fits, no_rows, no_columns}
+use Rattle.surface.proofs.Rows.{rect, column_lt, row_lt, row_fits}
 use Rattle.blit.specs.declared.Blit.{Blit}
-use Rattle.blit.specs.Blit.{clipped, region, marks, source_word, row_held}
+use Rattle.blit.specs.Blit.{clipped, region, source_word, row_held}
 use Rattle.blit.specs.Inner.{source_for, held}
 
--- whether a box has a pixel, from the code's tests
-abbrev pub filled : BlitRect → Bool
-filled box = nonempty box.x0 box.x1 box.y0 box.y1
-
+-- a box without a pixel
 abbrev pub Empty : BlitRect → Type 0
-Empty box = filled box ≡ false
-
-pub found_empty : {t : Bool} (u : Bool) → t ≡ not u → t ≡ true → u ≡ false
-found_empty true e f = absurd (true≢false (sym f ∙ e))
-found_empty false e f = refl
-
-pub found_filled : {t : Bool} (u : Bool) → t ≡ not u → t ≡ false → u ≡ true
-found_filled true e f = refl
-found_filled false e f = absurd (true≢false (sym e ∙ f))
-
-pub not_below : (m n : ℕ) → leb n m ≡ not (ltb m n)
-not_below m n = by (dec_lt m n)
-  where
-    by : Dec (m < n) → leb n m ≡ not (ltb m n)
-    by (yes l) = rw (lt-ltb m n l, lt-leb n m l)
-    by (no l) = rw (le-ltb m n (omega arith), le-leb n m (omega arith))
+Empty box = nonempty box.x0 box.x1 box.y0 box.y1 ≡ false
 
 module _ (b : Blit) where
   -- its columns and its rows
@@ -50,16 +32,8 @@ module _ (b : Blit) where
   down = blit_clipped b.dy b.sy b.h b.height b.src_h
 
   -- the box, as the code holds it
-  module _ {box : BlitRect} (is : box ≡ clipped b) where
-    pub is_empty : Empty box → Empty (clipped b)
-    is_empty h = rw is at h
-
-    -- a mark is due if it has pixels
-    pub unmarked : Empty box → false ≡ marks b
-    unmarked h = sym (is_empty h)
-
-    pub marked : filled box ≡ true → true ≡ marks b
-    marked h = sym (rw is at h)
+  pub is_empty : {box : BlitRect} → box ≡ clipped b → Empty box → Empty (clipped b)
+  is_empty is h = rw is at h
 
   -- the loops test a row as the definition does
   pub held_same : (len y : ℕ) → held (clipped b) b.src_w len y ≡ row_held b len y
@@ -81,12 +55,7 @@ module _ (b : Blit) where
         (row_lt b.width b.height j some lt)
 
     pub none_drawn : Empty (clipped b) → pixel ≡ false
-    none_drawn h = by (dec_lt (clipped b).x0 (clipped b).x1) (dec_lt (clipped b).y0 (clipped b).y1)
-      where
-        by : Dec ((clipped b).x0 < (clipped b).x1) → Dec ((clipped b).y0 < (clipped b).y1) → pixel ≡ false
-        by (no k) v = sym boxed ∙ no_columns b.width (clipped b).x0 (clipped b).x1 (clipped b).y0 (clipped b).y1 j (omega arith)
-        by (yes k) (no l) = sym boxed ∙ no_rows b.width (clipped b).x0 (clipped b).x1 (clipped b).y0 (clipped b).y1 j (omega arith)
-        by (yes k) (yes l) = absurd (true≢false (sym (together (lt-ltb (clipped b).x0 (clipped b).x1 k) (lt-ltb (clipped b).y0 (clipped b).y1 l)) ∙ h))
+    none_drawn h = sym boxed ∙ grind (arith, nat_tests)
 
     module _ (e : pixel ≡ true) where
       in_column_lem : ((clipped b).x0 ≤ j % b.width) × (j % b.width < (clipped b).x1)

@@ -4,13 +4,14 @@
 ghost use Rattle.std.specs.Prelude.{not, ◌≡◌, ◌+◌, ◌-◌, ◌≤◌, ◌<◌, length};
 ghost use Rattle.rop3.specs.Rop3.{table_of};
 ghost use Rattle.surface.specs.Region.{nonempty};
+ghost use Rattle.surface.specs.Refusal.{drawn};
 ghost use Rattle.surface.proofs.Accepted.{InOrder};
 ghost use Rattle.blit.specs.Blit.{clipped, marks, blit_from, BlitBytes};
 ghost use Rattle.blit.specs.Inner.{row_from, rows_from, RoomFrom};
 
 use clip_blit::BlitRect;
 use color::Rgb565;
-use surface::Drawn;
+use refusals::Refusal;
 
 // The numbers of a blit: the destination's sides, its box, the point in the source, and the source's sides.
 #[derive(Clone, Copy)]
@@ -43,30 +44,23 @@ pub fn blit_from_bytes_rop(
     src_h: u32,
     rop: u32,
     pat: Rgb565,
-) -> Drawn
-    ensures { BlitBytes dx dy sx sy w h src.now src_w src_h rop pat.0 width height pixels.old result pixels.new }
+) -> Result<bool, Refusal>
+    ensures { BlitBytes dx dy sx sy w h src.now src_w src_h rop pat.0 width height pixels.old (drawn result) pixels.new }
 {
-    let number = surface::refusal_from(width, height, src_w, src_h, pixels.len());
-    if number == 0 {
-        let b = Blit {
-            width,
-            height,
-            dx,
-            dy,
-            sx,
-            sy,
-            w,
-            h,
-            src_w,
-            src_h,
-        };
-        let marked = blit_from(pixels, b, src, rop, pat);
-        return Drawn { refusal: 0, marked };
-    }
-    Drawn {
-        refusal: number,
-        marked: false,
-    }
+    surface::check_from(width, height, src_w, src_h, pixels.len())?;
+    let b = Blit {
+        width,
+        height,
+        dx,
+        dy,
+        sx,
+        sy,
+        w,
+        h,
+        src_w,
+        src_h,
+    };
+    Ok(blit_from(pixels, b, src, rop, pat))
 }
 
 // The same on a surface whose sides and length were checked. Returns whether a dirty mark is due.
@@ -96,10 +90,7 @@ pub fn clip_of(b: Blit) -> BlitRect
 pub fn is_empty(r: BlitRect) -> bool
     ensures { result ≡ not (nonempty r.x0 r.x1 r.y0 r.y1) }
 {
-    if r.x1 <= r.x0 {
-        return true;
-    }
-    r.y1 <= r.y0
+    r.x1 <= r.x0 || r.y1 <= r.y0
 }
 
 // Draws the rows of a box from other bytes.

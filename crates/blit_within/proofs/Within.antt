@@ -6,13 +6,13 @@ use mathlib.Core.List.{List}
 use mathlib.Core.Logic.{◌⊎◌, inl, inr}
 use Prim.Native.Nat.{ℕ, ◌+◌, ◌*◌, ◌-◌, ◌/◌, ◌%◌, ◌≤◌, ◌<◌}
 use native.Mathlib.Nat.{mul-le-mul_right, div-lt_iff_lt-mul}
-use native.Mathlib.Decide.{dec_lt}
 use native.Mathlib.Omega.{arith}
 use lib.Dec.{leb}
 use lib.ListN.{length}
 use borrow.Author.Tests.{le-leb, lt-leb}
+use Rattle.std.proofs.lemmas.Bool.Decides.{nat_tests}
 use Rattle.arithmetic.specs.Interval.{between}
-use Rattle.arithmetic.proofs.Interval.{Lies, inside, before, behind, where_is_lem, between_yes, between_no, between_cong, bounds}
+use Rattle.arithmetic.proofs.Interval.{Lies, inside, before, behind, where_is_lem, between_yes, bounds}
 use Rattle.arithmetic.proofs.Test.{both, not_left, not_right}
 use Rattle.words.specs.Words.{word, painted}
 use Rattle.words.proofs.Painted.{painted_none, painted_same, word_kept}
@@ -30,14 +30,10 @@ use Rattle.blit.proofs.Rows.{next_row, fits, in_row, taken_row, below, above}
 
 -- a row of a surface that begins at word at
 placed_row : (at d n i : ℕ) → at ≤ i → between (at + d) (at + d + n) i ≡ between d (d + n) (i - at)
-placed_row at d n i h = between_cong (at + d) (at + d + n) i d (d + n) (i - at) (λ p q. omega arith) (λ p q. omega arith)
+placed_row at d n i h = grind (arith, nat_tests)
 
 placed_more : (at d n i : ℕ) (old all : Bool) → all ≡ (between d (d + n) (i - at) || old) → (leb at i && all) ≡ (between (at + d) (at + d + n) i || (leb at i && old))
-placed_more at d n i old all e = by (dec_lt i at)
-  where
-    by : Dec (i < at) → (leb at i && all) ≡ (between (at + d) (at + d + n) i || (leb at i && old))
-    by (yes l) = rw (lt-leb at i l, between_no (at + d) (at + d + n) i (λ p q. omega arith))
-    by (no l) = rw (le-leb at i (omega arith), placed_row at d n i (omega arith)) e
+placed_more at d n i old all e = grind (arith, nat_tests)
 
 -- a row, as the code draws it from the source row q that it computes
 pub row_drawn : (box : BlitRect) (at W src-at SW table pat y : ℕ) (m : List ℕ) {q : ℕ} {m' : List ℕ} → q ≡ box.src_y0 + (y - box.y0)
@@ -45,10 +41,6 @@ pub row_drawn : (box : BlitRect) (at W src-at SW table pat y : ℕ) (m : List �
     → m' ≡ row_within box at W src-at SW table pat y m
 unfolding row_within
 row_drawn box at W src-at SW table pat y m is e = e ∙ rw is
-
--- the room does not change while rows are drawn
-pub room_kept : {len len' at W src-at SW : ℕ} {box : BlitRect} → len' ≡ len → RoomWithin len at W src-at SW box → RoomWithin len' at W src-at SW box
-room_kept e h = rw e h
 
 -- rows within one memory
 module _ (box : BlitRect) (at W src-at SW table pat : ℕ) (m₀ : List ℕ) (room : RoomWithin (length m₀) at W src-at SW box) where
@@ -156,12 +148,8 @@ module _ (b : Blit) (at src-at table pat : ℕ) (m : List ℕ) (P : Placed (leng
   -- an empty box changes nothing
   pub empty_within : {box : BlitRect} → box ≡ clipped b → Empty box → m ≡ blit_within b at src-at table pat m
   unfolding blit_within
-  empty_within is h = painted_none Region New m (λ i lt. by i (where_is_lem at end i))
-    where
-      by : (i : ℕ) → Lies at end i → Region i ≡ false
-      by i (inside e p q) = not_right (between at end i) (none_drawn b P.some (i - at) (omega arith) (is_empty b is h))
-      by i (before e p) = not_left (words_of b.width (region b) (i - at)) e
-      by i (behind e p) = not_left (words_of b.width (region b) (i - at)) e
+  empty_within is h =
+      painted_none Region New m (λ i lt. let pixel = none_drawn b P.some (i - at) in let none = is_empty b is h in grind (arith, nat_tests, pixel, none))
 
   -- what the loops require, and the memory after them
   rows_end : (clipped b).y1 * b.width ≤ b.width * b.height

@@ -46,33 +46,13 @@ fn rows_within(mem: &mut [u8], p: Pair, r: BlitRect, table: u8, pat: u16)
     ensures { mem.new ≡ rows_within r p.at p.width p.src_at p.src_w table pat r.y0 r.y1 mem.old }
 {
     if r.y0 <= r.src_y0 {
-        rows_forward(mem, p, r, table, pat);
+        for y in r.y0..r.y1 {
+            row_within(mem, p, r, y, table, pat);
+        }
     } else {
-        rows_backward(mem, p, r, table, pat);
-    }
-}
-
-// The same from the top, for a source that is not above the box.
-fn rows_forward(mem: &mut [u8], p: Pair, r: BlitRect, table: u8, pat: u16)
-    requires room_within { RoomWithin (length mem.old) p.at p.width p.src_at p.src_w r }
-    requires y0_bound { r.y0 ≤ r.src_y0 }
-    ensures { mem.new ≡ rows_within r p.at p.width p.src_at p.src_w table pat r.y0 r.y1 mem.old }
-{
-    for y in r.y0..r.y1 {
-        row_within(mem, p, r, y, table, pat);
-    }
-}
-
-// The same from the bottom, for a source that is not below the box.
-fn rows_backward(mem: &mut [u8], p: Pair, r: BlitRect, table: u8, pat: u16)
-    requires room_within { RoomWithin (length mem.old) p.at p.width p.src_at p.src_w r }
-    requires src_y0_bound { r.src_y0 ≤ r.y0 }
-    ensures { mem.new ≡ rows_within r p.at p.width p.src_at p.src_w table pat r.y0 r.y1 mem.old }
-{
-    let mut y = r.y1;
-    while r.y0 < y {
-        y -= 1;
-        row_within(mem, p, r, y, table, pat);
+        for y in (r.y0..r.y1).rev() {
+            row_within(mem, p, r, y, table, pat);
+        }
     }
 }
 

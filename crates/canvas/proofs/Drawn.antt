@@ -1,5 +1,7 @@
 -- The operation of a drawing gives the bytes and the mark that the drawing's definition says. Assumes nothing.
-use mathlib.Core.Bool.{Bool}
+use Rattle.std.proofs.Common.{Result, Ok, Err}
+use Rattle.std.specs.Result.{result_unwrap_or}
+use mathlib.Core.Bool.{Bool, false}
 use mathlib.Core.List.{List}
 use mathlib.Core.Path.{◌≡◌, refl, ◌∙◌, subst}
 use Prim.Native.Nat.{ℕ, ◌≤◌, ◌<◌}
@@ -11,6 +13,8 @@ use Rattle.arithmetic.proofs.Machine.{held32, stored32}
 use Rattle.words.specs.Words.{painted}
 use Rattle.raster.specs.Raster.{ropped}
 use Rattle.raster.proofs.Plain.{pattern_ropped}
+use Rattle.refusals.specs.declared.Refusal.{Refusal}
+use Rattle.surface.specs.Refusal.{drawn}
 use Rattle.surface.specs.Region.{words_of}
 use Rattle.surface.specs.declared.Drawn as A
 use Rattle.surface.proofs.Accepted.{InOrder, order_accepted}
@@ -28,6 +32,11 @@ use Rattle.canvas.specs.Inner.{marks_of, drawn_of, Drawable}
 -- painting one colour is painting under PATCOPY's table
 solid : (P : ℕ → Bool) (c : ℕ) (m : List ℕ) → c < 65536 → painted P (λ _. c) m ≡ painted P (ropped 0xF0 c (λ _. 0) m) m
 solid P c m small = pattern_ropped 0xF0 P c (λ _. 0) m refl small
+
+-- the mark of a drawing that was answered, or none if it was refused
+pub marked_or : (r : Result Bool Refusal) → result_unwrap_or r false ≡ (drawn r).marked
+marked_or (Ok t) = refl
+marked_or (Err x) = refl
 
 -- the mark and the bytes are those of a drawing
 abbrev pub Drawn : Drawing → (units : List ℕ) → (color width height : ℕ) → (m : List ℕ) → Bool → (m' : List ℕ) → Type 0

@@ -68,16 +68,13 @@ fn draw_on(
     ensures bytes { pixels.new ≡ drawn_of drawing units.now color.0 width pixels.old }
 {
     match drawing {
-        Drawing::Fill { area, rop } => {
-            let d = fill::fill_rect_rop(
-                pixels, width, height, area.x, area.y, area.w, area.h, color, rop,
-            );
-            d.marked
-        }
-        Drawing::Outline(a) => {
-            let d = outline::stroke_rect(pixels, width, height, a.x, a.y, a.w, a.h, color);
-            d.marked
-        }
+        Drawing::Fill { area, rop } => fill::fill_rect_rop(
+            pixels, width, height, area.x, area.y, area.w, area.h, color, rop,
+        )
+        .unwrap_or(false),
+        Drawing::Outline(a) => outline::stroke_rect(
+            pixels, width, height, a.x, a.y, a.w, a.h, color,
+        ).unwrap_or(false),
         Drawing::Text { at, count } => {
             text::draw_units(pixels, width, height, at.x, at.y, units, count, color);
             0 < count

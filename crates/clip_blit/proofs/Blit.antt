@@ -7,7 +7,8 @@ use native.Mathlib.Omega.{arith}
 use lib.Dec.{ltb}
 use lib.IntN.{ℤ, pos, negsuc, ◌+ℤ◌, ◌-ℤ◌}
 use lib.Signed.{le_z, lt_z}
-use borrow.Author.Tests.{ltb-true, ltb-false}
+use borrow.Author.Tests.{ltb-true, ltb-false, lt-ltb, le-ltb}
+use Rattle.std.proofs.lemmas.Int.{ints}
 use Rattle.arithmetic.specs.Interval.{between}
 use Rattle.arithmetic.specs.Integer.{positive}
 use Rattle.arithmetic.specs.Inner.{negative}
@@ -139,22 +140,30 @@ module _ (d s w : ℤ) (dst-side src-side : ℕ) where
   unfolding blit_axis
   blit_clipped = picked (ltb on.from on.to) refl
 
-  -- the definition, at the values that the code computes
-  module _ {cut : Span} {from to : ℕ} (is_cut : cut ≡ clipped_axis s w src-side) (is-from : from ≡ nearest (shifted d s cut) dst-side) (is-to : to ≡ nearest (shifted d s cut +ℤ (pos cut.to -ℤ pos cut.from)) dst-side) where
-    abbrev first : ℤ
-    first = pos cut.from +ℤ (pos from -ℤ shifted d s cut)
+  -- The definition, at the values that the code computes: both ends of the clipped source move by d - s.
+  module _ {cut : Span} {start end : ℤ} {from to : ℕ} (is_cut : cut ≡ clipped_axis s w src-side) (is-start : start ≡ pos cut.from +ℤ (d -ℤ s)) (is-end : end ≡ pos cut.to +ℤ (d -ℤ s)) (is-from : from ≡ nearest start dst-side) (is-to : to ≡ nearest end dst-side) where
+    abbrev drawn : BlitSpan
+    drawn = blit_axis d s w dst-side src-side
 
-    pub blit_steps : blit_axis d s w dst-side src-side ≡ cond (ltb from to) (record { from = from; to = to; src = positive first }) nothing
+    blit_steps : drawn ≡ cond (ltb from to) (record { from = from; to = to; src = positive (pos cut.from +ℤ (pos from -ℤ shifted d s cut)) }) nothing
     unfolding blit_axis clipped_axis
-    blit_steps = cc
+    blit_steps =
+        let first : start ≡ shifted d s cut = omega (arith, ints) in
+        let last : end ≡ shifted d s cut +ℤ (pos cut.to -ℤ pos cut.from) = omega (arith, ints) in
+        cc
 
-    pub blit_first : from < to → (negative first ≡ 0) × (positive first < src-side)
-    unfolding clipped_axis
-    blit_first h =
-        let f : from ≡ on.from = cc in
-        let t : to ≡ on.to = cc in
-        let e = first_is d s from cut ∙ ap (source_at d s) f in
-        omega (arith, ap negative e, ap positive e, on_inside on.from (omega arith) (omega arith))
+    -- where pixels are drawn, the source coordinate that the code subtracts is the definition's
+    pub blit_drawn : from < to → (drawn ≡ record { from = from; to = to; src = drawn.src }) × ((pos from -ℤ (d -ℤ s) ≡ pos drawn.src) × (drawn.src < src-side))
+    blit_drawn h =
+        let is : drawn ≡ record { from = from; to = to; src = positive (pos cut.from +ℤ (pos from -ℤ shifted d s cut)) } = rw (lt-ltb from to h) at blit_steps in
+        let at : drawn.from ≡ from = ap (λ (x : BlitSpan). x.from) is in
+        let until : drawn.to ≡ to = ap (λ (x : BlitSpan). x.to) is in
+        let taken : pos (drawn.src + (from - drawn.from)) ≡ source_at d s from = blit_clipped.taken from (omega arith) (omega arith) in
+        let within = blit_clipped.source in
+        (cc (is, ap (λ (x : BlitSpan). x.src) is), (omega (arith, ints), omega arith))
+
+    pub blit_none : to ≤ from → drawn ≡ nothing
+    blit_none h = rw (le-ltb from to h) at blit_steps
 
 module _ (dx dy sx sy w h : ℤ) (dst-w dst-h src-w src-h : ℕ) where
   abbrev box : BlitRect

@@ -5,7 +5,7 @@ ghost use Rattle.std.specs.Prelude.{◌≡◌};
 ghost use Rattle.clip_blit.specs.Blit.{blit_axis, blit_rect};
 
 // The coordinates from .. to of the destination, drawn from the source's src on.
-#[derive(Clone, Copy)]
+#[derive(Clone, Copy, Debug, PartialEq, Eq)]
 pub struct BlitSpan {
     pub from: u32,
     pub to: u32,
@@ -13,7 +13,7 @@ pub struct BlitSpan {
 }
 
 // Columns x0 .. x1 and rows y0 .. y1 of the destination, drawn from column src_x0 and row src_y0 of the source on.
-#[derive(Clone, Copy)]
+#[derive(Clone, Copy, Debug, PartialEq, Eq)]
 pub struct BlitRect {
     pub x0: u32,
     pub y0: u32,
@@ -28,23 +28,24 @@ pub fn clip_blit_axis(d: i32, s: i32, w: i32, dst_side: u32, src_side: u32) -> B
     ensures { result ≡ blit_axis d s w dst_side src_side }
 {
     let cut = clip::clip_axis(s, w, src_side);
-    let s0 = cut.from as i64;
-    let s1 = cut.to as i64;
-    let d0 = (d as i64) + (s0 - (s as i64));
-    let from = clip::clamp(d0, dst_side);
-    let to = clip::clamp(d0 + (s1 - s0), dst_side);
-    if to <= from {
-        return BlitSpan {
+    // the destination less the source; both ends of the source's part move by it
+    let shift = i64::from(d) - i64::from(s);
+    let from = clip::clamp(i64::from(cut.from) + shift, dst_side);
+    let to = clip::clamp(i64::from(cut.to) + shift, dst_side);
+    if from < to {
+        let src = (i64::from(from) - shift) as u32;
+        BlitSpan { from, to, src }
+    } else {
+        BlitSpan {
             from: 0,
             to: 0,
             src: 0,
-        };
+        }
     }
-    let src = (s0 + ((from as i64) - d0)) as u32;
-    BlitSpan { from, to, src }
 }
 
 // Clips a blit of a box: the columns and rows that are drawn, and the source coordinates of the first column and row.
+// Ten numbers and not a struct for each axis: the signature of this exported function stays.
 pub fn clip_blit(
     dx: i32,
     dy: i32,

@@ -5,16 +5,16 @@ ghost use Rattle.std.specs.Prelude.{◌≡◌};
 ghost use Rattle.color.specs.Color.{red, green, blue, packed_channels, packed, widened};
 
 // 0x00BBGGRR. A COLORREF is never taken for an RGB565 word: only packing and widening cross between the two.
-#[derive(Clone, Copy)]
+#[derive(Debug, Clone, Copy, PartialEq, Eq)]
 pub struct Colorref(pub u32);
 
 // RRRRRGGGGGGBBBBB.
 #[repr(C)]
-#[derive(Clone, Copy)]
+#[derive(Debug, Clone, Copy, PartialEq, Eq)]
 pub struct Rgb565(pub u16);
 
 // 0RRRRRGGGGGBBBBB.
-#[derive(Clone, Copy)]
+#[derive(Debug, Clone, Copy, PartialEq, Eq)]
 pub struct Rgb555(pub u16);
 
 // The red channel of a colour.
@@ -46,16 +46,15 @@ pub fn pack_rgb565(r: u8, g: u8, b: u8) -> Rgb565
 }
 
 // Packs a COLORREF; its top byte has no effect.
+#[tactic(auto, unfolding(crate::specs::Color::packed))]
 pub fn colorref_to_rgb565(c: Colorref) -> Rgb565
     ensures { result.0 ≡ packed c.0 }
 {
-    let r = red(c);
-    let g = green(c);
-    let b = blue(c);
-    pack_rgb565(r, g, b)
+    pack_rgb565(red(c), green(c), blue(c))
 }
 
 // Widens an RGB565 word: each channel's high bits are repeated below it.
+#[tactic(auto, unfolding(crate::specs::Color::wide_red, crate::specs::Color::wide_green, crate::specs::Color::wide_blue, crate::specs::Color::widened))]
 pub fn rgb565_to_colorref(p: Rgb565) -> Colorref
     ensures { result.0 ≡ widened p.0 }
 {

@@ -1,1 +1,2 @@
 pub mod CheckValue
+pub mod Steps

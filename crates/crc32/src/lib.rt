@@ -8,6 +8,7 @@ ghost use Rattle.crc32.specs.Crc32.{bit_step, byte_step, crc32};
 const POLYNOMIAL: u32 = 0xEDB8_8320;
 
 // One shift of the register.
+#[tactic(auto, unfolding(crate::specs::Crc32::bit_step))]
 fn step_bit(c: u32) -> u32
     ensures { result ≡ bit_step c }
 {
@@ -15,23 +16,20 @@ fn step_bit(c: u32) -> u32
 }
 
 // Adds a byte to the register, and shifts it eight times.
+#[tactic(auto, using(crate::proofs::Steps::one_shift, crate::proofs::Steps::no_shift), unfolding(crate::specs::Crc32::byte_step))]
 fn step_byte(c: u32, b: u8) -> u32
     ensures { result ≡ byte_step c b }
 {
-    let mut r = c ^ (b as u32);
+    let mut register = c ^ u32::from(b);
     for _ in 0u32..8 {
-        r = step_bit(r);
+        register = step_bit(register);
     }
-    r
+    register
 }
 
 // The checksum of the bytes.
 pub fn crc32(bytes: &[u8]) -> u32
     ensures { result ≡ crc32 bytes.now }
 {
-    let mut c = 0xFFFF_FFFF;
-    for i in 0..bytes.len() {
-        c = step_byte(c, bytes[i]);
-    }
-    c ^ 0xFFFF_FFFF
+    bytes.iter().copied().fold(0xFFFF_FFFF, step_byte) ^ 0xFFFF_FFFF
 }

@@ -4,7 +4,6 @@ use mathlib.Core.List.{List}
 use mathlib.Core.Path.{◌≡◌, refl, sym, ◌∙◌, ap}
 use Prim.Native.Nat.{ℕ, ◌+◌, ◌<◌, ◌≤◌}
 use native.Mathlib.Omega.{arith}
-use Rattle.surface.specs.Refusal.{side}
 use Rattle.gdi.specs.declared.GdiObject.{GdiObject}
 use Rattle.gdi.specs.declared.GdiObject.TheVariants.{Bitmap}
 use Rattle.gdi.specs.Record.{bytes_of, fresh_bitmap}
@@ -20,7 +19,7 @@ use Rattle.paint.specs.Paint.{painted_by, after}
 use Rattle.plan.specs.Answer.{Parts, refused, answered}
 use Rattle.plan.specs.Create.{creation, create_of, side_of, create_bitmap}
 use Rattle.plan.specs.Followed.{Followed}
-use Rattle.plan.proofs.Create.{full_plan, short_plan, creation_plan, side_fits, wide_plan, high_plan, bitmap_plan}
+use Rattle.plan.proofs.Create.{full_plan, short_plan, creation_plan, wide_plan, high_plan, bitmap_plan}
 use Rattle.plan.proofs.Followed.{followed_as, refusal, acceptance}
 
 -- `make`: a full table, a full store, and a new object
@@ -59,6 +58,3 @@ module _ (l : List ℕ) (w h : ℕ) where
     pub sized : h ≤ 4096 → {x y : ℕ} {a : Parts} {l' : List ℕ} {ms ms' : Memories} → x ≡ side_of w → y ≡ side_of h
         → Followed (create_of (view l) (Bitmap (fresh_bitmap x y))) l ms a l' ms' → Followed (create_bitmap (view l) w h) l ms a l' ms'
     sized high width height f = followed_as (bitmap_plan w h (view l) wide high ∙ rw (width, height)) f
-
-pub side_taken : (n : ℕ) {x : ℕ} → x ≡ side_of n → n ≤ 4096 → side x ≡ true
-side_taken n e le = rw e (side_fits n le)

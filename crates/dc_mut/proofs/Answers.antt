@@ -1,40 +1,38 @@
--- The structs that answer a setting by value. Assumes nothing.
+-- The struct that answers a setting by value, at the type of each setting. Assumes nothing.
+use mathlib.Core.Path.{refl}
+use denote.Param.{layout}
+use denote.Param.Laws.{Laws, Told, of_field}
+use denote.Param.Plain.{IsPlain}
+use denote.Param.Shared.{copy_shared}
+use denote.Struct.Field.{u32-field, bool-field}
 use denote.Struct.Laws as LL
-use Rattle.dc_mut.specs.contracts.ColorChange as ColorChange
-use Rattle.dc_mut.proofs.ColorChange.TheLaws as ColorChange'
-use Rattle.dc_mut.specs.contracts.AlignChange as AlignChange
-use Rattle.dc_mut.proofs.AlignChange.TheLaws as AlignChange'
-use Rattle.dc_mut.specs.contracts.ModeChange as ModeChange
-use Rattle.dc_mut.proofs.ModeChange.TheLaws as ModeChange'
+use denote.Struct.Laws.{u32-laws, u32-copy, u32-plain, bool-laws, bool-copy, bool-plain}
+use Rattle.color.proofs.Colorref.TheLaws as C'
+use Rattle.dc_mut.specs.contracts.Change as Change
+use Rattle.dc_mut.proofs.Change.TheLaws as Change'
+use Rattle.dc_mut.proofs.Setting.{Kind}
 use Rattle.dc_mut.proofs.Fields.{colour, number, flag}
 use Rattle.dc_mut.proofs.Valued.{Answer}
 
+module _ (K : Kind) (L : Laws K.row) (plain : IsPlain K.row) where
+  abbrev told : Told K.row
+  told = record { val = K.val; tells = K.tells }
+
+  abbrev pub changed : Answer K
+  changed = record {
+    row = Change.the_row K.row;
+    ty = layout (Change.the_row K.row);
+    make = λ d x. record { dc = d; old = x };
+    is_made = λ d x is-d is_x. LL.owes (Change.the_type K.row) (Change'.the_laws K.row L told) (record { dc = d; old = x }) (is-d, (is_x, tt));
+    typed = λ 𝓛 y v is. ((LL.lawful (Change.the_type K.row) (Change'.the_laws K.row L told) 𝓛).typed y _ is).0;
+    makes = λ 𝓛. LL.makes (Change.the_type K.row) (Change'.the_plain K.row plain) 𝓛;
+  }
+
 abbrev pub recolored : Answer colour
-recolored = record {
-  row = ColorChange.the_row;
-  ty = ColorChange'.mir;
-  make = λ d x. record { dc = d; old = x };
-  is_made = λ d x is-d is_x. LL.owes ColorChange.the_type ColorChange'.the_laws (record { dc = d; old = x }) (is-d, (is_x, tt));
-  typed = λ 𝓛 y v is. ((LL.lawful ColorChange.the_type ColorChange'.the_laws 𝓛).typed y _ is).0;
-  makes = λ 𝓛. LL.makes ColorChange.the_type ColorChange'.the_plain 𝓛;
-}
+recolored = changed colour C'.the_row_laws C'.the_row_plain
 
 abbrev pub realigned : Answer number
-realigned = record {
-  row = AlignChange.the_row;
-  ty = AlignChange'.mir;
-  make = λ d x. record { dc = d; old = x };
-  is_made = λ d x is-d is_x. LL.owes AlignChange.the_type AlignChange'.the_laws (record { dc = d; old = x }) (is-d, (is_x, tt));
-  typed = λ 𝓛 y v is. ((LL.lawful AlignChange.the_type AlignChange'.the_laws 𝓛).typed y _ is).0;
-  makes = λ 𝓛. LL.makes AlignChange.the_type AlignChange'.the_plain 𝓛;
-}
+realigned = changed number (of_field u32-field u32-laws refl (copy_shared u32-field u32-copy)) u32-plain
 
 abbrev pub remoded : Answer flag
-remoded = record {
-  row = ModeChange.the_row;
-  ty = ModeChange'.mir;
-  make = λ d x. record { dc = d; old = x };
-  is_made = λ d x is-d is_x. LL.owes ModeChange.the_type ModeChange'.the_laws (record { dc = d; old = x }) (is-d, (is_x, tt));
-  typed = λ 𝓛 y v is. ((LL.lawful ModeChange.the_type ModeChange'.the_laws 𝓛).typed y _ is).0;
-  makes = λ 𝓛. LL.makes ModeChange.the_type ModeChange'.the_plain 𝓛;
-}
+remoded = changed flag (of_field bool-field bool-laws refl (copy_shared bool-field bool-copy)) bool-plain

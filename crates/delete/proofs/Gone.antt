@@ -1,4 +1,5 @@
 -- Delete and remove: the object that is found, as the code reads it, and the cases of their plans. Assumes nothing.
+use Rattle.std.specs.Prelude.{Option, Some, None}
 use mathlib.Core.Bool.{true, false}
 use mathlib.Core.List.{List}
 use mathlib.Core.Path.{◌≡◌, sym, ◌∙◌}
@@ -6,8 +7,6 @@ use Prim.Native.Nat.{ℕ, ◌+◌, ◌-◌, ◌<◌}
 use native.Mathlib.Omega.{arith}
 use Rattle.words.specs.Parts.{part}
 use Rattle.gdi.specs.declared.GdiState.{GdiState}
-use Rattle.gdi.specs.declared.Found.{Found}
-use Rattle.gdi.specs.declared.Found.TheVariants.{At, Nothing}
 use Rattle.gdi.specs.declared.GdiObject.{GdiObject}
 use Rattle.gdi.specs.Record.{bytes_of}
 use Rattle.gdi.specs.Stock.{is_stock}
@@ -38,20 +37,20 @@ module _ (stock : Parts) (gone : ℕ → Parts) (none : Parts) (b : GdiState) (h
   unfolding deletion_of
   stays e = rw e
 
-  module _ (ns : is_stock h ≡ false) {q : Found} (f : q ≡ find_of b h) where
+  module _ (ns : is_stock h ≡ false) {q : Option ℕ} (f : q ≡ find_of b h) where
     looked : deletion_of stock gone none b h ≡ deletion_at gone none b h q
     unfolding deletion_of
     looked = rw (ns, ← f)
 
-    pub is_none : q ≡ Nothing → deletion_of stock gone none b h ≡ record_only b none
+    pub is_none : q ≡ None → deletion_of stock gone none b h ≡ record_only b none
     is_none g = looked ∙ rw g
 
-    pub leaves : {i : ℕ} → q ≡ At i → deletion_of stock gone none b h ≡ deletion_at gone none b h (At i)
+    pub leaves : {i : ℕ} → q ≡ Some i → deletion_of stock gone none b h ≡ deletion_at gone none b h (Some i)
     leaves g = looked ∙ rw g
 
 -- a created object that was removed, with the answer a
 pub gone_followed : (stock : Parts) (gone : ℕ → Parts) (none : Parts) (l : List ℕ) (h : ℕ) {i : ℕ} {a : Parts} {l' store store' : List ℕ}
-    → deletion_of stock gone none (view l) h ≡ deletion_at gone none (view l) h (At i) → a ≡ gone i → a.number ≡ 0 → Updated l (without_at (view l) i) l'
+    → deletion_of stock gone none (view l) h ≡ deletion_at gone none (view l) h (Some i) → a ≡ gone i → a.number ≡ 0 → Updated l (without_at (view l) i) l'
     → store' ≡ closed_up 0 store (start_of (view l) i) (bytes_of (object_at (view l) i)) (used (view l))
     → (panel : List ℕ) → Followed (deletion_of stock gone none (view l) h) l (memories panel store) a l' (memories panel store')
 unfolding after painted_by

@@ -1,9 +1,7 @@
 -- The cases of a dirty mark. Assumes nothing.
-use Rattle.std.proofs.Common.{◌≡◌, ℕ, ◌+◌, ◌%◌, set, sym, ◌∙◌, eq-eqb, ne_eqb}
+use Rattle.std.proofs.Common.{◌≡◌, ℕ, ◌+◌, ◌%◌, set, sym, ◌∙◌, eq-eqb, ne_eqb, Option, Some, None}
 use Rattle.gdi.specs.declared.GdiState.{GdiState}
 use Rattle.gdi.specs.declared.GdiObject.{GdiObject}
-use Rattle.gdi.specs.declared.Found.{Found}
-use Rattle.gdi.specs.declared.Found.TheVariants.{At, Nothing}
 use Rattle.gdi.specs.Stock.{stock_bitmap}
 use Rattle.gdi.specs.Updates.{with_frames, with_stock_dirty, with_objects}
 use Rattle.gdi.specs.Lookup.{handle_at, object_at, find_of}
@@ -23,14 +21,14 @@ module _ (b : GdiState) {s : SurfaceId} {h : ℕ} (e : s ≡ Bitmap h) where
 
   module _ (ne : h ≡ stock_bitmap → ⊥) where
     -- the slot that was passed
-    pub slot_found : {q f : Found} → q ≡ slot_for b s → q ≡ f → find_of b h ≡ f
+    pub slot_found : {q f : Option ℕ} → q ≡ slot_for b s → q ≡ f → find_of b h ≡ f
     slot_found g f = sym (g ∙ rw (e, ne_eqb _ _ ne)) ∙ f
 
-    pub mark_found : {i : ℕ} {o : GdiObject} → find_of b h ≡ At i → o ≡ object_dirtied (object_at b i)
+    pub mark_found : {i : ℕ} {o : GdiObject} → find_of b h ≡ Some i → o ≡ object_dirtied (object_at b i)
         → with_objects b b.next_handle b.count (set b.objects i (record { handle = handle_at b.objects i; object = o })) ≡ dirtied b s
     unfolding dirtied
     mark_found f q = rw (e, ne_eqb _ _ ne, f, q)
 
-    pub mark_none : find_of b h ≡ Nothing → b ≡ dirtied b s
+    pub mark_none : find_of b h ≡ None → b ≡ dirtied b s
     unfolding dirtied
     mark_none f = rw (e, ne_eqb _ _ ne, f)

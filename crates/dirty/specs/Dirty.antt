@@ -1,9 +1,7 @@
 -- Dirty marks.
-use Rattle.std.specs.Prelude.{◌+◌, ◌%◌, Bool, cond, ◌==◌, slice_set}
+use Rattle.std.specs.Prelude.{◌+◌, ◌%◌, Bool, cond, ◌==◌, slice_set, Option, ℕ, Some, None}
 use Rattle.gdi.specs.declared.GdiState.{GdiState}
 use Rattle.gdi.specs.declared.Slot.{Slot}
-use Rattle.gdi.specs.declared.Found.{Found}
-use Rattle.gdi.specs.declared.Found.TheVariants.{At, Nothing}
 use Rattle.gdi.specs.declared.GdiObject.{GdiObject}
 use Rattle.gdi.specs.declared.GdiObject.TheVariants.{Dc, Bitmap as BitmapOf, Brush, Pen, Font}
 use Rattle.gdi.specs.Stock.{stock_bitmap}
@@ -28,9 +26,9 @@ abbrev pub next_frame : GdiState → GdiState
 next_frame b = with_frames b ((b.frame_counter + 1) % 18446744073709551616)
 
 -- the record with the dirty mark of a created object
-abbrev pub created_dirtied : GdiState → Found → GdiState
-created_dirtied b (At i) = with_objects b b.next_handle b.count (slice_set b.objects i (slot_dirtied (slot_at b i)))
-created_dirtied b Nothing = b
+abbrev pub created_dirtied : GdiState → Option ℕ → GdiState
+created_dirtied b (Some i) = with_objects b b.next_handle b.count (slice_set b.objects i (slot_dirtied (slot_at b i)))
+created_dirtied b None = b
 
 -- a dirty mark adds 1 to the panel's frame counter (64 bits), or sets a bitmap's host_dirty
 unfoldable pub dirtied : GdiState → SurfaceId → GdiState

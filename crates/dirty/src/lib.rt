@@ -2,51 +2,42 @@
 #![tactic(auto)]
 
 ghost use Rattle.std.specs.Prelude.{◌≡◌, ◌<◌, true};
-ghost use Rattle.gdi.specs.declared.Found.TheVariants.{At};
 ghost use Rattle.numbers.specs.Layout.{count_place};
 ghost use Rattle.numbers.specs.Block.{at};
 ghost use Rattle.numbers.specs.View.{view, is_record, Updated};
 ghost use Rattle.place.specs.Place.{slot_for};
 ghost use Rattle.dirty.specs.Dirty.{next_frame, created_dirtied, dirtied, dirtied_if};
 
-use gdi::{Found, STOCK_DEFAULT_BITMAP};
+use gdi::STOCK_DEFAULT_BITMAP;
 use numbers::{BITMAP_DIRTY, FRAMES_HIGH, FRAMES_LOW, KIND, SLOT, SLOTS, STOCK_DIRTY};
 use place::SurfaceId;
 
 // Marks a surface dirty. A created bitmap has its record in this slot.
-pub fn mark_dirty(numbers: &mut [u32], id: SurfaceId, slot: Found)
+pub fn mark_dirty(numbers: &mut [u32], id: SurfaceId, slot: Option<usize>)
     requires numbers_value { is_record numbers.old ≡ true }
     requires slot_value { slot ≡ slot_for (view numbers.old) id }
     ensures { Updated numbers.old (dirtied (view numbers.old) id) numbers.new }
 {
     match id {
-        SurfaceId::Panel => {
-            count_frame(numbers);
-        }
+        SurfaceId::Panel => count_frame(numbers),
         SurfaceId::Bitmap(h) => {
             if h == STOCK_DEFAULT_BITMAP {
                 numbers[STOCK_DIRTY] = 1;
-                return;
-            }
-            match slot {
-                Found::At(i) => {
-                    mark_slot(numbers, i);
-                }
-                Found::Nothing => {}
+            } else if let Some(i) = slot {
+                mark_slot(numbers, i);
             }
         }
     }
 }
 
 // The same if a mark is due.
-pub fn mark_dirty_if(numbers: &mut [u32], id: SurfaceId, slot: Found, due: bool)
+pub fn mark_dirty_if(numbers: &mut [u32], id: SurfaceId, slot: Option<usize>, due: bool)
     requires numbers_value { is_record numbers.old ≡ true }
     requires slot_value { slot ≡ slot_for (view numbers.old) id }
     ensures { Updated numbers.old (dirtied_if due id (view numbers.old)) numbers.new }
 {
     if due {
         mark_dirty(numbers, id, slot);
-        return;
     }
 }
 
@@ -55,8 +46,8 @@ fn count_frame(numbers: &mut [u32])
     requires { is_record numbers.old ≡ true }
     ensures { Updated numbers.old (next_frame (view numbers.old)) numbers.new }
 {
-    let frames = (numbers[FRAMES_LOW] as u64) + 0x1_0000_0000 * (numbers[FRAMES_HIGH] as u64);
-    let next = std::num::wrapping_add_u64(frames, 1);
+    let frames = u64::from(numbers[FRAMES_LOW]) + 0x1_0000_0000 * u64::from(numbers[FRAMES_HIGH]);
+    let next = frames.wrapping_add(1);
     numbers[FRAMES_LOW] = (next % 0x1_0000_0000) as u32;
     numbers[FRAMES_HIGH] = (next / 0x1_0000_0000) as u32;
 }
@@ -65,11 +56,10 @@ fn count_frame(numbers: &mut [u32])
 fn mark_slot(numbers: &mut [u32], i: usize)
     requires numbers_value { is_record numbers.old ≡ true }
     requires i_bound { i < at numbers.old count_place }
-    ensures { Updated numbers.old (created_dirtied (view numbers.old) (At i)) numbers.new }
+    ensures { Updated numbers.old (created_dirtied (view numbers.old) (Some i)) numbers.new }
 {
     let p = SLOTS + SLOT * i;
     if numbers[p + KIND] == 1 {
         numbers[p + BITMAP_DIRTY] = 1;
-        return;
     }
 }

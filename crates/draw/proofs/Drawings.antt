@@ -1,4 +1,5 @@
 -- The plans of pattern fill, rectangle and text by their DC's target, and a drawing's stroke on the numbers. Assumes nothing.
+use Rattle.std.specs.Prelude.{Result}
 use mathlib.Core.Bool.{Bool, cond}
 use mathlib.Core.List.{List, [], ◌∷◌}
 use mathlib.Core.Path.{◌≡◌, refl, ◌∙◌, ap, subst}
@@ -14,9 +15,9 @@ use Rattle.ready.proofs.Ready.{Ready}
 use Rattle.place.specs.declared.Place.{Place}
 use Rattle.place.specs.declared.Site.{Site}
 use Rattle.place.specs.declared.SurfaceId.{SurfaceId}
+use Rattle.place.specs.declared.NoTarget.{NoTarget}
 use Rattle.place.specs.declared.Target.{Target}
-use Rattle.place.specs.declared.Target.TheVariants.{On}
-use Rattle.place.specs.Place.{target_of, Within}
+use Rattle.place.specs.Place.{target_of, Within, on}
 use Rattle.place.specs.Inner.{SiteFound}
 use Rattle.place.proofs.Same.{Still}
 use Rattle.dirty.specs.Dirty.{dirtied_if}
@@ -30,7 +31,7 @@ use Rattle.plan.specs.Drawing.{patterned, marks_at, pattern_fill_on, pattern_fil
 use Rattle.plan.proofs.Followed.{StrokedOn}
 use Rattle.canvas.specs.declared.Drawing.{Drawing}
 use Rattle.canvas.specs.Inner.{region_of, table_for, marks_of, drawn_of, stroke_of}
-use Rattle.draw.proofs.Targeted.{Targeted, on}
+use Rattle.draw.proofs.Targeted.{Targeted, painted}
 
 -- the calls by their DC's target
 pub pattern_fill_on_lem : (b : GdiState) (dc : ℕ) (a : Area) (rop : ℕ) → Targeted (pattern_fill b dc a rop) b dc (pattern_fill_on b a (table_of rop))
@@ -50,13 +51,13 @@ unfolding text
 text_on_lem b us dc at = record { plan = refl }
 
 -- n units, on the surface s
-module _ (b : GdiState) (us : List ℕ) (dc : ℕ) (at : Point) {t : Target} (e : t ≡ target_of b dc) {s : SurfaceId} {i : Site} {d : Dc} (f : t ≡ On s i d)
+module _ (b : GdiState) (us : List ℕ) (dc : ℕ) (at : Point) {t : Result Target NoTarget} (e : t ≡ target_of b dc) {s : SurfaceId} {i : Site} {d : Dc} (f : t ≡ on s i d)
     {n : ℕ} (k : n ≡ unit_count us) where
   pub too_many : 65535 < n → text b us dc at ≡ refuse 10 b
-  too_many l = on (text_on_lem b us dc at) e f ∙ rw (← k, lt-leb n 65535 l)
+  too_many l = painted (text_on_lem b us dc at) e f ∙ rw (← k, lt-leb n 65535 l)
 
   pub few_enough : n ≤ 65535 → text b us dc at ≡ text_on b us n at s d
-  few_enough l = on (text_on_lem b us dc at) e f ∙ rw (← k, le-leb n 65535 l)
+  few_enough l = painted (text_on_lem b us dc at) e f ∙ rw (← k, le-leb n 65535 l)
 
 -- a site in a record that is lent with its memories
 pub within_lent : {b : GdiState} {n k : ℕ} {s : SurfaceId} {i : Site} → Ready b n k → SiteFound b s i → Within n k i.at

@@ -9,8 +9,8 @@ ghost use Rattle.plan.specs.Answer.{parts_of};
 ghost use Rattle.plan.specs.Followed.{Followed, OnBoth};
 
 use canvas::Drawing;
-use place::Target;
 use plan::{Answer, Point};
+use refusals::Refusal;
 
 // Draws the units before unit 0 or the end in the DC's text colour. Returns the advance in pixels.
 pub fn text_out(
@@ -20,22 +20,26 @@ pub fn text_out(
     units: &[u16],
     dc: u32,
     at: Point,
-) -> Answer
+) -> Result<Answer, Refusal>
     requires { Lent numbers.old (length panel.old) (length store.old) }
     ensures { OnBoth (λ n. Followed (text (view n) units.now dc at) n) numbers panel store (parts_of result) }
 {
-    match place::target_of(numbers, dc) {
-        Target::NoDc => Answer::Refused(refusals::NO_DC),
-        Target::NoSurface => Answer::Refused(refusals::NO_SURFACE),
-        Target::On(id, site, d) => {
-            let count = text::unit_count(units);
-            if text::MAX_UNITS < count {
-                return Answer::Refused(refusals::TEXT_TOO_LONG);
-            }
-            let ink = color::colorref_to_rgb565(d.text_color);
-            let drawing = Drawing::Text { at, count };
-            draw::draw(numbers, panel, store, id, site, drawing, units, ink);
-            Answer::Advance(text::GLYPH_W * (count as u32))
-        }
+    let target = place::target_of(numbers, dc)?;
+    let count = text::unit_count(units);
+    if text::MAX_UNITS < count {
+        return Err(Refusal::TextTooLong);
     }
+    let ink = color::colorref_to_rgb565(target.dc.text_color);
+    let drawing = Drawing::Text { at, count };
+    draw::draw(
+        numbers,
+        panel,
+        store,
+        target.id,
+        target.site,
+        drawing,
+        units,
+        ink,
+    );
+    Ok(Answer::Advance(text::GLYPH_W * (count as u32)))
 }

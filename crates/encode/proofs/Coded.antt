@@ -1,4 +1,5 @@
 -- DCs, objects and slots written as numbers are read back unchanged. Assumes nothing.
+use Rattle.std.specs.Prelude.{Option, None, Some}
 use mathlib.Core.Bool.{true, ◌&&◌, ◌||◌}
 use mathlib.Core.List.{List, [], ◌∷◌}
 use mathlib.Core.Path.{◌≡◌, refl, ◌∙◌, ap}
@@ -16,8 +17,6 @@ use Rattle.words.proofs.Parts.{length_with, part_same}
 use Rattle.bigendian.specs.BigEndian.{signed32}
 use Rattle.gdi.specs.declared.DcSurface.{DcSurface}
 use Rattle.gdi.specs.declared.DcSurface.TheVariants.{Screen, Memory}
-use Rattle.gdi.specs.declared.SelectedBitmap.{SelectedBitmap}
-use Rattle.gdi.specs.declared.SelectedBitmap.TheVariants.{Unset, Chosen}
 use Rattle.gdi.specs.declared.Dc.{Dc}
 use Rattle.gdi.specs.declared.Bitmap.{Bitmap}
 use Rattle.gdi.specs.declared.Brush.{Brush as BrushRecord}
@@ -34,17 +33,17 @@ surface_back : (s : DcSurface) → surface_of (surface_number s) ≡ s
 surface_back Screen = refl
 surface_back Memory = refl
 
-bitmap_back : (b : SelectedBitmap) → bitmap_of (present_number b) (bitmap_number b) ≡ b
-bitmap_back Unset = refl
-bitmap_back (Chosen h) = refl
+bitmap_back : (b : Option ℕ) → bitmap_of (present_number b) (bitmap_number b) ≡ b
+bitmap_back None = refl
+bitmap_back (Some h) = refl
 
 surface_flag : (s : DcSurface) → is_flag (surface_number s) ≡ true
 surface_flag Screen = refl
 surface_flag Memory = refl
 
-bitmap_flags : (b : SelectedBitmap) → (flag_of (present_number b) || (eqb (present_number b) 0 && eqb (bitmap_number b) 0)) ≡ true
-bitmap_flags Unset = refl
-bitmap_flags (Chosen h) = refl
+bitmap_flags : (b : Option ℕ) → (flag_of (present_number b) || (eqb (present_number b) 0 && eqb (bitmap_number b) 0)) ≡ true
+bitmap_flags None = refl
+bitmap_flags (Some h) = refl
 
 -- the numbers of a DC; those of its position are the two's complements of its coordinates
 pub dc_coded : (d : Dc) {x y : ℕ} → SFits w32 d.pos_x → SFits w32 d.pos_y → signed32 x ≡ held32 d.pos_x → signed32 y ≡ held32 d.pos_y → DcCoded d (dc_numbers d x y)

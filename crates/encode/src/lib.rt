@@ -7,7 +7,7 @@ ghost use Rattle.numbers.specs.Layout.{dc_size, object_size, slot_size};
 ghost use Rattle.numbers.specs.Block.{present_number, bitmap_number, ObjectCoded};
 ghost use Rattle.numbers.proofs.Block.{surface_number, DcCoded, SlotCoded};
 
-use gdi::{Dc, DcSurface, GdiObject, SelectedBitmap, Slot};
+use gdi::{Dc, DcSurface, GdiObject, Slot};
 use numbers::{HANDLE, KIND, OBJECT, SLOT};
 
 fn surface_number(s: DcSurface) -> u32
@@ -19,22 +19,16 @@ fn surface_number(s: DcSurface) -> u32
     }
 }
 
-fn present_number(b: SelectedBitmap) -> u32
+fn present_number(b: Option<u32>) -> u32
     ensures { result ≡ present_number b }
 {
-    match b {
-        SelectedBitmap::Unset => 0,
-        SelectedBitmap::Chosen(_) => 1,
-    }
+    u32::from(b.is_some())
 }
 
-fn bitmap_number(b: SelectedBitmap) -> u32
+fn bitmap_number(b: Option<u32>) -> u32
     ensures { result ≡ bitmap_number b }
 {
-    match b {
-        SelectedBitmap::Unset => 0,
-        SelectedBitmap::Chosen(h) => h,
-    }
+    b.unwrap_or(0)
 }
 
 // Returns the two's complement of z.
@@ -47,49 +41,12 @@ fn unsigned(z: i32) -> u32
     z as u32
 }
 
-// Writes an object's numbers.
-fn put(
-    numbers: &mut [u32],
-    a: u32,
-    b: u32,
-    c: u32,
-    d: u32,
-    e: u32,
-    f: u32,
-    g: u32,
-    h: u32,
-    i: u32,
-    j: u32,
-    k: u32,
-    m: u32,
-    x: u32,
-    y: u32,
-)
-    requires { length numbers.old ≡ object_size }
-    ensures { numbers.new ≡ a ∷ b ∷ c ∷ d ∷ e ∷ f ∷ g ∷ h ∷ i ∷ j ∷ k ∷ m ∷ x ∷ y ∷ [] }
-{
-    numbers[0] = a;
-    numbers[1] = b;
-    numbers[2] = c;
-    numbers[3] = d;
-    numbers[4] = e;
-    numbers[5] = f;
-    numbers[6] = g;
-    numbers[7] = h;
-    numbers[8] = i;
-    numbers[9] = j;
-    numbers[10] = k;
-    numbers[11] = m;
-    numbers[12] = x;
-    numbers[13] = y;
-}
-
 // Writes three numbers, then zeros.
 fn put_few(numbers: &mut [u32], a: u32, b: u32, c: u32)
     requires { length numbers.old ≡ object_size }
     ensures { numbers.new ≡ a ∷ b ∷ c ∷ 0 ∷ 0 ∷ 0 ∷ 0 ∷ 0 ∷ 0 ∷ 0 ∷ 0 ∷ 0 ∷ 0 ∷ 0 ∷ [] }
 {
-    put(numbers, a, b, c, 0, 0, 0, 0, 0, 0, 0, 0, 0, 0, 0);
+    numbers.copy_from_slice(&[a, b, c, 0, 0, 0, 0, 0, 0, 0, 0, 0, 0, 0]);
 }
 
 // Writes a DC.
@@ -97,13 +54,10 @@ pub fn put_dc(numbers: &mut [u32], d: Dc)
     requires { length numbers.old ≡ dc_size }
     ensures { DcCoded d numbers.new }
 {
-    let surface = d.surface;
-    let bitmap = d.selected_bitmap;
-    put(
-        numbers,
-        surface_number(surface),
-        present_number(bitmap),
-        bitmap_number(bitmap),
+    numbers.copy_from_slice(&[
+        surface_number(d.surface),
+        present_number(d.selected_bitmap),
+        bitmap_number(d.selected_bitmap),
         d.selected_brush,
         d.selected_pen,
         d.selected_font,
@@ -115,7 +69,7 @@ pub fn put_dc(numbers: &mut [u32], d: Dc)
         numbers::flag_number(d.bk_transparent),
         unsigned(d.pos_x),
         unsigned(d.pos_y),
-    );
+    ]);
 }
 
 // Writes an object. Returns its kind.
@@ -153,8 +107,7 @@ pub fn put_slot(numbers: &mut [u32], s: Slot)
     requires { length numbers.old ≡ slot_size }
     ensures { SlotCoded s numbers.new }
 {
-    let o = s.object;
-    let kind = put_object(&mut numbers[OBJECT..SLOT], o);
+    let kind = put_object(&mut numbers[OBJECT..SLOT], s.object);
     numbers[HANDLE] = s.handle;
     numbers[KIND] = kind;
 }

@@ -1,4 +1,5 @@
 -- What the functions do with what is asked: they do it on the encoded device, or refuse it and change nothing. Assumes nothing.
+use Rattle.std.specs.Prelude.{Option, Some, None}
 use mathlib.Core.Bool.{Bool, true, false, cond}
 use mathlib.Core.List.{List, [], ◌∷◌}
 use mathlib.Core.Path.{◌≡◌, refl, sym, ◌∙◌, ap, ap₂, subst}
@@ -15,6 +16,7 @@ use Rattle.canonical.proofs.Unique.{updated_unique}
 use Rattle.ready.specs.Ready.{common_refusal, common_refusal_on}
 use Rattle.paint.specs.Memories.{Memories}
 use Rattle.paint.specs.Paint.{Paint, after}
+use Rattle.plan.specs.declared.Call.{Call}
 use Rattle.plan.specs.Answer.{Parts, refused, none as no-object, origin}
 use Rattle.plan.specs.Plan.{Plan, refuse}
 use Rattle.plan.specs.Load.{load_table}
@@ -25,8 +27,6 @@ use Rattle.execution.specs.Execution.{plan_for, answer, run}
 use Rattle.execution.proofs.Performed.{performed_step}
 use Rattle.save.specs.declared.Saving.{Saving}
 use Rattle.save.specs.Save.{save_answer, Saved}
-use Rattle.host_call.specs.declared.ParsedCall.{ParsedCall}
-use Rattle.host_call.specs.declared.ParsedCall.TheVariants.{NoCall, Is}
 use Rattle.host_call.specs.Call.{call_of}
 use Rattle.host_reply.specs.declared.Reply.{Reply}
 use Rattle.host.specs.Host.{plan_read}
@@ -235,31 +235,31 @@ replied c {s} {t} {r} {p} e x =
     record { performed = subst (λ (q : Plan). Followed q s.numbers s.memories p.outcome.answer t.numbers t.memories) (sym e) x.performed.followed; words = x.words }
 
 -- the promise for numbers that were parsed as q
-abbrev HostedAs : ParsedCall → (us : List ℕ) → FlatDevice → Reply → FlatDevice → Type 0
+abbrev HostedAs : Option Call → (us : List ℕ) → FlatDevice → Reply → FlatDevice → Type 0
 HostedAs q us s r t = ReplyPromises (plan_read q us s.numbers s.memories) s r t
 
-no_call_stays : (us : List ℕ) {s t : FlatDevice} {r : Reply} → HostedAs NoCall us s r t → t ≡ s
+no_call_stays : (us : List ℕ) {s t : FlatDevice} {r : Reply} → HostedAs None us s r t → t ≡ s
 no_call_stays us x = followed_refused (λ z. omega (arith, z)) x.performed.followed
 
-read_refuses : (q : ParsedCall) (us : List ℕ) (s t : FlatDevice) (r : Reply) → (refuses_all_on s ≡ 0 → ⊥) → HostedAs q us s r t → t ≡ s
-read_refuses NoCall us s t r ne x = no_call_stays us x
-read_refuses (Is c) us s t r ne x = performed_refuses (call c us) s t _ ne (replied (call c us) refl x)
+read_refuses : (q : Option Call) (us : List ℕ) (s t : FlatDevice) (r : Reply) → (refuses_all_on s ≡ 0 → ⊥) → HostedAs q us s r t → t ≡ s
+read_refuses None us s t r ne x = no_call_stays us x
+read_refuses (Some c) us s t r ne x = performed_refuses (call c us) s t _ ne (replied (call c us) refl x)
 
-read_makes : (q : ParsedCall) (us : List ℕ) (s t : FlatDevice) (r : Reply) → is_record s.numbers ≡ true → HostedAs q us s r t → device_of t ≡ (run (calls_read q us) (device_of s)).1
+read_makes : (q : Option Call) (us : List ℕ) (s t : FlatDevice) (r : Reply) → is_record s.numbers ≡ true → HostedAs q us s r t → device_of t ≡ (run (calls_read q us) (device_of s)).1
 unfolding run
-read_makes NoCall us s t r e x = ap device_of (no_call_stays us x)
-read_makes (Is c) us s t r e x = performed_makes (call c us) s t _ e (replied (call c us) refl x).performed
+read_makes None us s t r e x = ap device_of (no_call_stays us x)
+read_makes (Some c) us s t r e x = performed_makes (call c us) s t _ e (replied (call c us) refl x).performed
 
 -- the answer in a reply
-read_parts : (q : ParsedCall) (us : List ℕ) (s t s' t' : FlatDevice) (r r' : Reply) → SameRecord s t → HostedAs q us s r s' → HostedAs q us t r' t'
+read_parts : (q : Option Call) (us : List ℕ) (s t s' t' : FlatDevice) (r r' : Reply) → SameRecord s t → HostedAs q us s r s' → HostedAs q us t r' t'
     → (plan_read q us s.numbers s.memories).outcome.answer ≡ (plan_read q us t.numbers t.memories).outcome.answer
-read_parts NoCall us s t s' t' r r' same x y = refl
-read_parts (Is c) us s t s' t' r r' same x y = performed_answers (call c us) s t s' t' _ _ same (replied (call c us) refl x) (replied (call c us) refl y)
+read_parts None us s t s' t' r r' same x y = refl
+read_parts (Some c) us s t s' t' r r' same x y = performed_answers (call c us) s t s' t' _ _ same (replied (call c us) refl x) (replied (call c us) refl y)
 
-read_numbers : (q : ParsedCall) (us : List ℕ) (s t s' t' : FlatDevice) (r r' : Reply) → SameRecord s t → s.numbers ≡ t.numbers → HostedAs q us s r s' → HostedAs q us t r' t'
+read_numbers : (q : Option Call) (us : List ℕ) (s t s' t' : FlatDevice) (r r' : Reply) → SameRecord s t → s.numbers ≡ t.numbers → HostedAs q us s r s' → HostedAs q us t r' t'
     → s'.numbers ≡ t'.numbers
-read_numbers NoCall us s t s' t' r r' same n x y = ap (λ (z : FlatDevice). z.numbers) (no_call_stays us x) ∙ n ∙ sym (ap (λ (z : FlatDevice). z.numbers) (no_call_stays us y))
-read_numbers (Is c) us s t s' t' r r' same n x y = performed_numbers (call c us) s t s' t' _ _ same n (replied (call c us) refl x) (replied (call c us) refl y)
+read_numbers None us s t s' t' r r' same n x y = ap (λ (z : FlatDevice). z.numbers) (no_call_stays us x) ∙ n ∙ sym (ap (λ (z : FlatDevice). z.numbers) (no_call_stays us y))
+read_numbers (Some c) us s t s' t' r r' same n x y = performed_numbers (call c us) s t s' t' _ _ same n (replied (call c us) refl x) (replied (call c us) refl y)
 
 -- replies that hold the same answer are equal
 replies_same : {p q : Plan} {s t s' t' : FlatDevice} {r r' : Reply} → p.outcome.answer ≡ q.outcome.answer → ReplyPromises p s r s' → ReplyPromises q t r' t' → r ≡ r'

@@ -1,6 +1,6 @@
 -- Lists of calls as callers make them, with loads and saves among them: on a flat record, through `perform`, `load` and `save`, or
 -- through the C functions.
-use Rattle.std.specs.Prelude.{Bool, true, false, ◌&&◌, List, [], ◌∷◌, ◌++◌, ◌≡◌, ℕ, ◌<◌, ◌^◌, eqb, length, take}
+use Rattle.std.specs.Prelude.{Bool, true, false, ◌&&◌, List, [], ◌∷◌, ◌++◌, ◌≡◌, ℕ, ◌<◌, ◌^◌, eqb, length, take, Option, Some, None}
 use Rattle.numbers.specs.Layout.{object_size}
 use Rattle.numbers.specs.Block.{at}
 use Rattle.numbers.specs.View.{view}
@@ -9,6 +9,7 @@ use Rattle.place.specs.declared.SurfaceId.{SurfaceId}
 use Rattle.place.specs.Place.{where_is}
 use Rattle.paint.specs.Memories.{Memories, has_pixel, colour_at}
 use Rattle.paint.specs.Taint.{Taint}
+use Rattle.plan.specs.declared.Call.{Call}
 use Rattle.plan.specs.Answer.{Parts, none as no-object, origin}
 use Rattle.plan.specs.Plan.{Plan}
 use Rattle.plan.specs.Calls.{Invocation, call, load, save, plan_on}
@@ -16,8 +17,6 @@ use Rattle.plan.specs.Followed.{Performed}
 use Rattle.execution.specs.Execution.{Device, device}
 use Rattle.noninterference.specs.Claim.{taint_on}
 use Rattle.host_call.specs.declared.HostCall.{HostCall}
-use Rattle.host_call.specs.declared.ParsedCall.{ParsedCall}
-use Rattle.host_call.specs.declared.ParsedCall.TheVariants.{NoCall, Is}
 use Rattle.host_call.specs.Call.{call_of}
 use Rattle.host_reply.specs.declared.Reply.{Reply}
 use Rattle.save.specs.declared.Saving.{Saving}
@@ -122,9 +121,9 @@ HostPromises (host_load bytes) s (saving r bs) t = ⊥
 HostPromises (host_save room) s a t = SavePromises saving room s a t
 
 -- what is asked of the device: nothing, if the numbers are no call
-abbrev pub calls_read : ParsedCall → (units : List ℕ) → List Invocation
-calls_read NoCall us = []
-calls_read (Is c) us = call c us ∷ []
+abbrev pub calls_read : Option Call → (units : List ℕ) → List Invocation
+calls_read None us = []
+calls_read (Some c) us = call c us ∷ []
 
 abbrev pub host_calls : HostInvocation → List Invocation
 host_calls (host_call c us) = calls_read (call_of c) us

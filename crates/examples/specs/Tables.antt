@@ -1,11 +1,10 @@
 -- Saved tables of small records: each is what the definitions compute. The bytes are from document 02's sentences, and not from the
 -- definitions.
-use Rattle.std.specs.Prelude.{Bool, true, false, List, [], ◌∷◌, ◌++◌, ◌≡◌, refl, ℕ, pos, negsuc, length, take, set, replicate}
+use Rattle.std.specs.Prelude.{Bool, true, false, List, [], ◌∷◌, ◌++◌, ◌≡◌, refl, ℕ, pos, negsuc, length, take, set, replicate, Some}
 use Rattle.arithmetic.specs.Sum.{sum_below}
 use Rattle.bits.specs.Bits.{field, number_of, bits_of, bytes_in, fields, numbers_in, total, equal}
 use Rattle.gdi.specs.declared.Dc.{Dc}
 use Rattle.gdi.specs.declared.DcSurface.TheVariants.{Memory}
-use Rattle.gdi.specs.declared.SelectedBitmap.TheVariants.{Chosen}
 use Rattle.gdi.specs.declared.GdiObject.TheVariants.{Dc as DcOf, Bitmap, Brush, Pen, Font}
 use Rattle.gdi.specs.declared.Slot.{Slot}
 use Rattle.gdi.specs.declared.GdiState.{GdiState}
@@ -53,7 +52,7 @@ opened_saved = refl
 -- a device with a panel of 2 by 1 and an object of each kind
 abbrev dc : Dc
 dc =
-    dc_with Memory (Chosen 0xDEAD_1001) 0xDEAD_1002 0xDEAD_1003 0xDEAD_1004 (record { 0 = 0x0000FF }) (record { 0 = 0x00FF00 }) (record { 0 = 0x123456 }) 6
+    dc_with Memory (Some 0xDEAD_1001) 0xDEAD_1002 0xDEAD_1003 0xDEAD_1004 (record { 0 = 0x0000FF }) (record { 0 = 0x00FF00 }) (record { 0 = 0x123456 }) 6
     (record { 0 = 0xC0C0C0 }) true (negsuc 0) (pos 7)
 
 abbrev objects : List Slot

@@ -1,5 +1,6 @@
 -- The four shapes of a plan; every plan of a ready device has one of them. A law of all calls is proved by these four cases. Assumes
 -- nothing.
+use Rattle.std.specs.Prelude.{Option, Some, None}
 use mathlib.Core.Bool.{Bool, true, false, cond, ◌||◌}
 use mathlib.Core.List.{List, [], ◌∷◌}
 use mathlib.Core.Path.{◌≡◌, refl, sym, ◌∙◌}
@@ -14,8 +15,6 @@ use Rattle.clip_blit.proofs.Blit.{drawn_source}
 use Rattle.surface.specs.Refusal.{side}
 use Rattle.gdi.specs.declared.GdiState.{GdiState}
 use Rattle.gdi.specs.declared.GdiObject.{GdiObject}
-use Rattle.gdi.specs.declared.Found.{Found}
-use Rattle.gdi.specs.declared.Found.TheVariants.{At as FoundAt, Nothing}
 use Rattle.gdi.specs.Record.{size, bytes_of}
 use Rattle.gdi.specs.Updates.{with_sides}
 use Rattle.gdi.specs.Stock.{is_stock}
@@ -83,7 +82,7 @@ pub data Shape (b : GdiState) : Plan → Type 0 where
   record_only_lem : {p : Plan} → Unpainted b p → Shape b p
   strokes : (b' : GdiState) (ss : List Stroke) (a : Parts) → Still b b' → AllSourced b ss → Shape b (drawn_by b' ss a)
   blanks : (b' : GdiState) (a : Parts) (ps : List Paint) → Blanking b b' ps → Shape b (record { outcome = record { state = b'; answer = a }; paint = ps })
-  deletion : (gone : ℕ → Parts) (none : Parts) (h i : ℕ) → is_stock h ≡ false → find_of b h ≡ FoundAt i → Shape b (deletion_at gone none b h (FoundAt i))
+  deletion : (gone : ℕ → Parts) (none : Parts) (h i : ℕ) → is_stock h ≡ false → find_of b h ≡ Some i → Shape b (deletion_at gone none b h (Some i))
 
 module _ (b : GdiState) where
   -- a refusal, or an answer without a change
@@ -127,10 +126,10 @@ module _ (b : GdiState) where
   unfolding deletion_of
   goes_shape stock gone none h = by (is_stock h) refl (find_of b h) refl
     where
-      by : (t : Bool) → is_stock h ≡ t → (q : Found) → find_of b h ≡ q → Shape b (cond t (record_only b stock) (deletion_at gone none b h q))
+      by : (t : Bool) → is_stock h ≡ t → (q : Option ℕ) → find_of b h ≡ q → Shape b (cond t (record_only b stock) (deletion_at gone none b h q))
       by true e q f = unchanged stock
-      by false e (FoundAt i) f = deletion gone none h i e f
-      by false e Nothing f = unchanged none
+      by false e (Some i) f = deletion gone none h i e f
+      by false e None f = unchanged none
 
   -- a blit reads only pixels of its source
   source_inside : (at : Place) (x y : ℕ) → x < width_of at → y < height_of at → has_pixel at x y ≡ true

@@ -3,12 +3,13 @@
 
 ghost use Rattle.std.specs.Prelude.{◌≡◌, ◌+◌, ◌*◌, ◌≤◌, ◌<◌, length};
 ghost use Rattle.surface.specs.Region.{nonempty};
+ghost use Rattle.surface.specs.Refusal.{drawn};
 ghost use Rattle.fill.specs.Fill.{FillRect, FillRectRop};
 ghost use Rattle.fill.specs.Inner.{ropped_rect};
 
 use clip::Rect;
 use color::Rgb565;
-use surface::Drawn;
+use refusals::Refusal;
 
 // Fills the w by h pixels at x, y with one colour: fill_rect_rop under PATCOPY.
 pub fn fill_rect(
@@ -20,8 +21,8 @@ pub fn fill_rect(
     w: i32,
     h: i32,
     color: Rgb565,
-) -> Drawn
-    ensures { FillRect x y w h color.0 width height pixels.old result pixels.new }
+) -> Result<bool, Refusal>
+    ensures { FillRect x y w h color.0 width height pixels.old (drawn result) pixels.new }
 {
     fill_rect_rop(pixels, width, height, x, y, w, h, color, rop3::PATCOPY)
 }
@@ -37,19 +38,12 @@ pub fn fill_rect_rop(
     h: i32,
     pat: Rgb565,
     rop: u32,
-) -> Drawn
-    ensures { FillRectRop x y w h pat.0 rop width height pixels.old result pixels.new }
+) -> Result<bool, Refusal>
+    ensures { FillRectRop x y w h pat.0 rop width height pixels.old (drawn result) pixels.new }
 {
-    let number = surface::refusal(width, height, pixels.len());
-    if number == 0 {
-        let part = clip::clip_rect(x, y, w, h, width, height);
-        let marked = rop_rect(pixels, width, part, rop3::table(rop), pat.0);
-        return Drawn { refusal: 0, marked };
-    }
-    Drawn {
-        refusal: number,
-        marked: false,
-    }
+    surface::check(width, height, pixels.len())?;
+    let part = clip::clip_rect(x, y, w, h, width, height);
+    Ok(rop_rect(pixels, width, part, rop3::table(rop), pat.0))
 }
 
 // Combines pattern and destination under a table at the pixels of a clipped rectangle. Returns whether it has any.

@@ -198,6 +198,7 @@ const GLYPHS: [[u8; 8]; 95] = [
 ];
 
 // Returns the whole table.
+#[tactic(auto, unfolding(font::specs::Font::glyphs))]
 pub fn glyphs() -> [[u8; 8]; 95]
     ensures { result ≡ glyphs }
 {
@@ -209,6 +210,5 @@ pub fn glyph(i: usize) -> [u8; 8]
     requires { i < 95 }
     ensures { result ≡ glyph_of i }
 {
-    let table = glyphs();
-    table[i]
+    glyphs()[i]
 }

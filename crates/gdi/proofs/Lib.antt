@@ -1,4 +1,3 @@
 pub mod Scan
-pub mod Range
 pub mod Lookup
 pub mod Stock

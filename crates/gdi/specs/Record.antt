@@ -1,13 +1,11 @@
 -- The record of a device: sizes, records by their fields, fresh records, vacant slots.
-use Rattle.std.specs.Prelude.{Bool, false, ◌&&◌, List, ℕ, ◌*◌, ℤ, pos, negsuc, replicate}
+use Rattle.std.specs.Prelude.{Bool, false, ◌&&◌, List, ℕ, ◌*◌, ℤ, pos, negsuc, replicate, Option, None}
 use Rattle.std.specs.Int.Signed.{le_z}
 use Rattle.color.specs.declared.Colorref.{Colorref}
 use Rattle.gdi.specs.declared.Bitmap.{Bitmap}
 use Rattle.gdi.specs.declared.Dc.{Dc}
 use Rattle.gdi.specs.declared.DcSurface.{DcSurface}
 use Rattle.gdi.specs.declared.DcSurface.TheVariants.{Screen, Memory}
-use Rattle.gdi.specs.declared.SelectedBitmap.{SelectedBitmap}
-use Rattle.gdi.specs.declared.SelectedBitmap.TheVariants.{Unset}
 use Rattle.gdi.specs.declared.GdiObject.{GdiObject}
 use Rattle.gdi.specs.declared.GdiObject.TheVariants.{Dc as DcOf, Bitmap as BitmapOf, Brush, Pen, Font}
 use Rattle.gdi.specs.declared.Slot.{Slot}
@@ -42,7 +40,7 @@ state_with panel_len store_len width height frame-counter next_handle screen sto
     }
 
 -- a DC by its fields, in their order; its updates are written with it
-abbrev pub dc_with : (surface : DcSurface) (bitmap : SelectedBitmap) (brush pen font : ℕ) → (brush-color pen-color text_color : Colorref)
+abbrev pub dc_with : (surface : DcSurface) (bitmap : Option ℕ) (brush pen font : ℕ) → (brush-color pen-color text_color : Colorref)
     → (text_align : ℕ) (bk_color : Colorref) (bk-transparent : Bool) → (x y : ℤ) → Dc
 dc_with surface bitmap brush pen font brush-color pen-color text_color text_align bk_color bk-transparent x y =
     record {
@@ -66,7 +64,7 @@ abbrev pub dc_on : DcSurface → Dc
 dc_on s =
     record {
       surface = s;
-      selected_bitmap = Unset;
+      selected_bitmap = None;
       selected_brush = 0xDEAD_5701;
       selected_pen = 0xDEAD_5707;
       selected_font = 0xDEAD_5710;
@@ -101,7 +99,7 @@ screen_dc = dc_on Screen
 
 -- what the logic reads past the end of a table: an object of the first variant, all zeros
 abbrev pub no_slot : Slot
-no_slot = record { handle = 0; object = DcOf (dc_with Screen Unset 0 0 0 (record { 0 = 0 }) (record { 0 = 0 }) (record { 0 = 0 }) 0 (record { 0 = 0 }) false (pos 0) (pos 0)) }
+no_slot = record { handle = 0; object = DcOf (dc_with Screen None 0 0 0 (record { 0 = 0 }) (record { 0 = 0 }) (record { 0 = 0 }) 0 (record { 0 = 0 }) false (pos 0) (pos 0)) }
 
 -- what a slot without an object holds
 abbrev pub vacant_slot : Slot

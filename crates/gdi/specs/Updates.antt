@@ -1,9 +1,8 @@
 -- A record, a bitmap and a DC with one part changed. Every change of a record is written with these.
-use Rattle.std.specs.Prelude.{Bool, true, List, ℕ, ℤ, set}
+use Rattle.std.specs.Prelude.{Bool, true, List, ℕ, ℤ, set, Some}
 use Rattle.color.specs.declared.Colorref.{Colorref}
 use Rattle.gdi.specs.declared.Bitmap.{Bitmap}
 use Rattle.gdi.specs.declared.Dc.{Dc}
-use Rattle.gdi.specs.declared.SelectedBitmap.TheVariants.{Chosen}
 use Rattle.gdi.specs.declared.GdiObject.TheVariants.{Dc as DcOf}
 use Rattle.gdi.specs.declared.Slot.{Slot}
 use Rattle.gdi.specs.declared.GdiState.{GdiState}
@@ -43,7 +42,7 @@ with_host_dirty m = record { width = m.width; height = m.height; host_dirty = tr
 -- a DC with another bitmap, brush, pen or font selected; brush and pen with their colour
 abbrev pub with_bitmap : Dc → ℕ → Dc
 with_bitmap d h =
-    dc_with d.surface (Chosen h) d.selected_brush d.selected_pen d.selected_font
+    dc_with d.surface (Some h) d.selected_brush d.selected_pen d.selected_font
     d.brush_color d.pen_color d.text_color d.text_align d.bk_color d.bk_transparent d.pos_x d.pos_y
 
 abbrev pub with_brush : Dc → ℕ → Colorref → Dc

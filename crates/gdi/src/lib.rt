@@ -46,17 +46,11 @@ pub enum DcSurface {
     Memory,
 }
 
-// The bitmap selected into a DC: none before the first selection.
-#[derive(Clone, Copy)]
-pub enum SelectedBitmap {
-    Unset,
-    Chosen(u32),
-}
-
+// A device context. No bitmap is selected into it before the first selection.
 #[derive(Clone, Copy)]
 pub struct Dc {
     pub surface: DcSurface,
-    pub selected_bitmap: SelectedBitmap,
+    pub selected_bitmap: Option<u32>,
     pub selected_brush: u32,
     pub selected_pen: u32,
     pub selected_font: u32,
@@ -127,25 +121,11 @@ pub struct GdiState {
     pub objects: [Slot; 256],
 }
 
-// The result of looking a created object up: its slot, or nothing.
-#[derive(Clone, Copy)]
-pub enum Found {
-    At(usize),
-    Nothing,
-}
-
 // Where a DC's record is: in the record itself, or in a slot.
 #[derive(Clone, Copy)]
 pub enum Spot {
     Screen,
     Created(usize),
-}
-
-// The result of looking a DC up.
-#[derive(Clone, Copy)]
-pub enum DcFound {
-    Is(Spot, Dc),
-    Absent,
 }
 
 // The kind of object that a handle names, with the colour that a selection copies.
@@ -184,8 +164,8 @@ pub fn dc_on(surface: DcSurface) -> Dc
     ensures { result ≡ dc_on surface }
 {
     Dc {
-        surface: surface,
-        selected_bitmap: SelectedBitmap::Unset,
+        surface,
+        selected_bitmap: None,
         selected_brush: STOCK_WHITE_BRUSH,
         selected_pen: STOCK_BLACK_PEN,
         selected_font: STOCK_SYSTEM_FONT,
@@ -205,8 +185,8 @@ pub fn new_bitmap(width: u32, height: u32) -> Bitmap
     ensures { result ≡ fresh_bitmap width height }
 {
     Bitmap {
-        width: width,
-        height: height,
+        width,
+        height,
         host_dirty: false,
     }
 }
@@ -215,25 +195,9 @@ pub fn new_bitmap(width: u32, height: u32) -> Bitmap
 pub fn with_bitmap(d: Dc, handle: u32) -> Dc
     ensures { result ≡ with_bitmap d handle }
 {
-    let su = d.surface;
-    let bc = d.brush_color;
-    let pc = d.pen_color;
-    let tc = d.text_color;
-    let kc = d.bk_color;
     Dc {
-        surface: su,
-        selected_bitmap: SelectedBitmap::Chosen(handle),
-        selected_brush: d.selected_brush,
-        selected_pen: d.selected_pen,
-        selected_font: d.selected_font,
-        brush_color: bc,
-        pen_color: pc,
-        text_color: tc,
-        text_align: d.text_align,
-        bk_color: kc,
-        bk_transparent: d.bk_transparent,
-        pos_x: d.pos_x,
-        pos_y: d.pos_y,
+        selected_bitmap: Some(handle),
+        ..d
     }
 }
 
@@ -241,30 +205,25 @@ pub fn with_bitmap(d: Dc, handle: u32) -> Dc
 fn in_range(z: i32) -> bool
     ensures { result ≡ in_range z }
 {
-    if -32_768 <= z {
-        return z <= 32_767;
-    }
-    false
+    -32_768 <= z && z <= 32_767
 }
 
 // Whether a point can be a position.
 pub fn is_position(x: i32, y: i32) -> bool
     ensures { result ≡ is_position x y }
 {
-    if in_range(x) {
-        return in_range(y);
-    }
-    false
+    in_range(x) && in_range(y)
 }
 
 // The DC with another position.
 pub fn with_position(d: Dc, x: i32, y: i32) -> Dc
     ensures { result ≡ with_position d x y }
 {
-    let mut after = d;
-    after.pos_x = x;
-    after.pos_y = y;
-    after
+    Dc {
+        pos_x: x,
+        pos_y: y,
+        ..d
+    }
 }
 
 // The record of a new memory DC.

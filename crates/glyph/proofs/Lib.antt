@@ -1,3 +1,4 @@
 pub mod Glyph
 pub mod Reach
 pub mod Row
+pub mod Drawn

@@ -9,7 +9,7 @@ use native.Mathlib.Nat.{zero-div}
 use native.Mathlib.Omega.{arith}
 use lib.Dec.{ltb}
 use lib.ListN.{length, set, get_or}
-use borrow.Author.Tests.{lt-ltb, ne_eqb}
+use borrow.Author.Tests.{ne_eqb}
 use Rattle.arithmetic.specs.Interval.{between}
 use Rattle.arithmetic.proofs.Interval.{between_yes, between_no, between_cong}
 use Rattle.arithmetic.proofs.Test.{not_left, not_right}
@@ -19,10 +19,6 @@ use Rattle.font.specs.Font.{ink_at}
 use Rattle.glyph.specs.Inner.{row_ink}
 
 -- the code's test of a bit
-pub ink_yes : (row k : ℕ) → k < 8 → row / 2 ^ (7 - k) % 2 ≡ 1 → ink_at row k ≡ true
-unfolding ink_at
-ink_yes row k h e = rw (lt-ltb k 8 h, e)
-
 pub ink_no : (row k : ℕ) → (row / 2 ^ (7 - k) % 2 ≡ 1 → ⊥) → ink_at row k ≡ false
 unfolding ink_at
 ink_no row k n = not_right (ltb k 8) (ne_eqb (row / 2 ^ (7 - k) % 2) 1 n)

@@ -9,7 +9,7 @@ ghost use Rattle.surface.proofs.Accepted.{InOrder};
 ghost use Rattle.glyph.specs.Inner.{row_ink, bitmap_ink, Narrow, Shown};
 
 // The coordinates from .. to of a surface's side; the first of them is skip past the start of a glyph.
-#[derive(Clone, Copy)]
+#[derive(Clone, Copy, Debug, PartialEq, Eq)]
 pub struct Stretch {
     pub from: u32,
     pub to: u32,
@@ -37,11 +37,11 @@ pub fn draw_glyph(
     let n = (across.to - across.from) as usize;
     let skip = across.skip as usize;
     let y0 = down.from as usize;
-    let y1 = down.to as usize;
     let first = down.skip as usize;
-    for r in y0..y1 {
-        let d = r * (width as usize) + x0;
-        ink_row(pixels, d, n, rows[first + (r - y0)], skip, color);
+    let shown = &rows[first..first + (down.to - down.from) as usize];
+    for (k, row) in shown.iter().enumerate() {
+        let d = (y0 + k) * width as usize + x0;
+        ink_row(pixels, d, n, *row, skip, color);
     }
 }
 
@@ -50,11 +50,11 @@ pub fn cut(x: i32, dx: u32, n: u32, side: u32) -> Stretch
     requires { n ≤ 8 }
     ensures { Shown (x +ℤ pos dx) n side result }
 {
-    let start = x as i64 + (dx as i64);
+    let start = i64::from(x) + i64::from(dx);
     Stretch {
         from: clip::clamp(start, side),
-        to: clip::clamp(start + (n as i64), side),
-        skip: clip::clamp(0 - start, 8),
+        to: clip::clamp(start + i64::from(n), side),
+        skip: clip::clamp(-start, 8),
     }
 }
 
@@ -67,25 +67,11 @@ fn ink_row(pixels: &mut [u8], d: usize, n: usize, row: u8, skip: usize, color: u
     if row == 0 {
         return;
     }
-    if n == 5 {
-        if skip == 0 {
-            ink_five(pixels, d, row, color);
-            return;
-        }
+    if n == 5 && skip == 0 {
+        ink_run(pixels, d, 5, row, 0, color);
+    } else {
+        ink_run(pixels, d, n, row, skip, color);
     }
-    ink_run(pixels, d, n, row, skip, color);
-}
-
-// ink_row for the five columns of a whole row.
-fn ink_five(pixels: &mut [u8], d: usize, row: u8, color: u16)
-    requires { 2 * (d + 5) ≤ length pixels.old }
-    ensures { pixels.new ≡ painted (row_ink row 0 d 5) (λ _. color) pixels.old }
-{
-    ink_word(pixels, d, row, 0, color);
-    ink_word(pixels, d + 1, row, 1, color);
-    ink_word(pixels, d + 2, row, 2, color);
-    ink_word(pixels, d + 3, row, 3, color);
-    ink_word(pixels, d + 4, row, 4, color);
 }
 
 // The loop of ink_row.
@@ -108,13 +94,15 @@ fn ink_word(pixels: &mut [u8], i: usize, row: u8, k: usize, color: u16)
 }
 
 // Returns color if the row has ink at its column k, else old.
+#[tactic(auto, unfolding(font::specs::Font::ink_at))]
 fn inked_or(row: u8, k: usize, color: u16, old: u16) -> u16
     requires { k < 8 }
     ensures { result ≡ cond (ink_at row k) color old }
 {
-    let bits = row as usize;
-    if (bits >> (7 - k)) % 2 == 1 {
-        return color;
+    // with a shift of 8 bits the compiled loop takes longer
+    if (row as usize >> (7 - k)) % 2 == 1 {
+        color
+    } else {
+        old
     }
-    old
 }

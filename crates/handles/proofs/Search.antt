@@ -1,5 +1,5 @@
 -- The steps of the search for a free handle, the cases of its test, and the record with an appended object. Assumes nothing.
-use Rattle.std.proofs.Common.{◌≡◌, ℕ, suc, ◌+◌, ◌-◌, ◌%◌, ◌<◌, ◌≤◌, Bool, true, false, List, add-one, arith, eq-eqb, ne_eqb}
+use Rattle.std.proofs.Common.{◌≡◌, ℕ, suc, ◌+◌, ◌-◌, ◌<◌, ◌≤◌, Bool, true, false, List, add-one, arith, eq-eqb, ne_eqb}
 use Rattle.gdi.specs.declared.Slot.{Slot}
 use Rattle.gdi.specs.Stock.{is_stock}
 use Rattle.sound.specs.Sound.{absent}
@@ -33,6 +33,3 @@ module _ (l : List Slot) (n h i : ℕ) where
   pub end : tries ≤ i → first_free l n h i (tries - i) ≡ ahead h i
   unfolding first_free
   end le = let m : tries - i ≡ 0 = omega arith in rw m
-
-pub ahead_next : (h i : ℕ) → (ahead h i + 1) % 4294967296 ≡ ahead h (i + 1)
-ahead_next h i = omega arith

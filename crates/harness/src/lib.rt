@@ -22,6 +22,7 @@ pub fn read_input(rt: &impl Input, s: &mut [u8; LONGEST + 1]) -> io::Result<usiz
 pub fn read_full(rt: &impl Input, buf: &mut [u8]) -> io::Result<usize>
     ensures { IfOk result (λ n. IsPrefixLen n buf.new) }
 {
+    // a loop over `read`: `read_exact` takes an early end for an error, and `read_to_end` takes a heap
     let mut reader = rt.reader();
     let mut done = 0;
     while done < buf.len() {
@@ -36,7 +37,7 @@ pub fn read_full(rt: &impl Input, buf: &mut [u8]) -> io::Result<usize>
 
 // Fills a memory with bytes that begin at `first` and rise by `step`, and begin again every 251 bytes; with step 0 all are `first`.
 pub fn fill(mem: &mut [u8], first: u8, step: u8) {
-    for k in 0..mem.len() {
-        mem[k] = ((first as usize + (step as usize) * (k % 251)) % 256) as u8;
+    for (k, byte) in mem.iter_mut().enumerate() {
+        *byte = first.wrapping_add(step.wrapping_mul((k % 251) as u8));
     }
 }

@@ -1,21 +1,20 @@
 -- A host's call, as numbers: its plan is that of the call that they encode.
-use Rattle.std.specs.Prelude.{cond, ◌&&◌, List, ℕ, leb, length}
+use Rattle.std.specs.Prelude.{Option, Some, None, cond, ◌&&◌, List, ℕ, leb, length}
 use Rattle.numbers.specs.View.{view}
 use Rattle.paint.specs.Memories.{Memories}
+use Rattle.plan.specs.declared.Call.{Call}
 use Rattle.plan.specs.Plan.{Plan, refuse}
 use Rattle.plan.specs.Calls.{call, load, plan_on}
 use Rattle.plan.specs.Followed.{Followed}
 use Rattle.host_call.specs.declared.HostCall.{HostCall}
-use Rattle.host_call.specs.declared.ParsedCall.{ParsedCall}
-use Rattle.host_call.specs.declared.ParsedCall.TheVariants.{NoCall, Is}
 use Rattle.host_call.specs.Call.{call_of}
 use Rattle.host_reply.specs.declared.Reply.{Reply}
 use Rattle.host_reply.specs.Reply.{Replied}
 use Rattle.p6.specs.P6.{ppm_length}
 
-abbrev pub plan_read : ParsedCall → (units l : List ℕ) → Memories → Plan
-plan_read NoCall us l ms = refuse 255 (view l)
-plan_read (Is c) us l ms = plan_on (call c us) l (length ms.panel) (length ms.store)
+abbrev pub plan_read : Option Call → (units l : List ℕ) → Memories → Plan
+plan_read None us l ms = refuse 255 (view l)
+plan_read (Some c) us l ms = plan_on (call c us) l (length ms.panel) (length ms.store)
 
 -- numbers that encode no call are refused with 255
 abbrev pub host_plan : HostCall → (units l : List ℕ) → Memories → Plan

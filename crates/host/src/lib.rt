@@ -9,9 +9,9 @@ ghost use Rattle.snapshot.specs.Snapshot.{rgba8888, ppm, Snapped};
 ghost use Rattle.save.specs.Save.{Saved};
 ghost use Rattle.host.specs.Host.{HostPerformed, HostLoaded, picture_length};
 
-use host_call::{HostCall, ParsedCall};
+use host_call::HostCall;
 use host_reply::Reply;
-use plan::Answer;
+use refusals::Refusal;
 use save::Saving;
 use surface::MAX_SIDE;
 
@@ -25,7 +25,7 @@ pub fn ravinefork_open(
 ) -> u32
     ensures { OnBoth (Opened width height) numbers panel store result }
 {
-    open::open(numbers, panel, store, width, height)
+    refusals::number_in(open::open(numbers, panel, store, width, height))
 }
 
 // Performs a call (`perform::perform`). Only a text reads the units.
@@ -39,11 +39,8 @@ pub fn ravinefork_perform(
     ensures { OnBoth (HostPerformed call units.now) numbers panel store result }
 {
     match host_call::call_of(call) {
-        ParsedCall::NoCall => host_reply::reply_of(Answer::Refused(refusals::NO_CALL)),
-        ParsedCall::Is(c) => {
-            let answer = perform::perform(numbers, c, units, panel, store);
-            host_reply::reply_of(answer)
-        }
+        Some(call) => host_reply::reply_of(perform::perform(numbers, call, units, panel, store)),
+        None => host_reply::reply_of(Err(Refusal::NoCall)),
     }
 }
 
@@ -56,39 +53,35 @@ pub fn ravinefork_load(
 ) -> Reply
     ensures { OnBoth (HostLoaded bytes.now) numbers panel store result }
 {
-    let answer = load::load(numbers, bytes, panel, store);
-    host_reply::reply_of(answer)
+    host_reply::reply_of(load::load(numbers, bytes, panel, store))
 }
 
 // Saves the table of the record (`save::save`). Pixels are not saved.
 pub fn ravinefork_save(numbers: &[u32], out: &mut [u8]) -> Saving
     ensures { Saved numbers.now out.old result out.new }
 {
-    save::save(numbers, out)
+    Saving::from(save::save(numbers, out))
 }
 
 // Writes the panel's pixels as R, G, B, 255. Returns the number of the refusal, 0 if the snapshot is written.
 pub fn ravinefork_snapshot_rgba8888(numbers: &[u32], panel: &[u8], out: &mut [u8]) -> u32
     ensures { Snapped rgba8888 numbers.now panel.now out.old result out.new }
 {
-    snapshot::snapshot_rgba8888_into(numbers, panel, out)
+    refusals::number_in(snapshot::snapshot_rgba8888_into(numbers, panel, out))
 }
 
 // Writes the panel as a P6 picture. Returns the number of the refusal, 0 if the snapshot is written.
 pub fn ravinefork_snapshot_ppm(numbers: &[u32], panel: &[u8], out: &mut [u8]) -> u32
     ensures { Snapped ppm numbers.now panel.now out.old result out.new }
 {
-    snapshot::snapshot_ppm(numbers, panel, out)
+    refusals::number_in(snapshot::snapshot_ppm(numbers, panel, out))
 }
 
 // The length of a P6 picture of these sides, also where a side is 0; 0 if a side is above 4,096.
 pub fn ravinefork_ppm_len(width: u32, height: u32) -> usize
     ensures { result ≡ picture_length width height }
 {
-    if width > MAX_SIDE {
-        return 0;
-    }
-    if height > MAX_SIDE {
+    if width > MAX_SIDE || height > MAX_SIDE {
         return 0;
     }
     p6::ppm_len(width, height)

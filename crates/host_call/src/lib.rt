@@ -10,7 +10,7 @@ use plan::{Area, Call, Point};
 // A call, by its number in call scripts. Fields that the call does not use are ignored: `a` is a bitmap's or a panel's width, a
 // colour, an object's handle, a setting or a raster code, `b` a height or a pen's width; `h` is a font's height too.
 #[repr(C)]
-#[derive(Clone, Copy)]
+#[derive(Clone, Copy, Debug, PartialEq, Eq)]
 pub struct HostCall {
     pub call: u32,
     pub dc: u32,
@@ -25,112 +25,111 @@ pub struct HostCall {
     pub src_y: i32,
 }
 
-#[derive(Clone, Copy)]
-pub enum ParsedCall {
-    NoCall,
-    Is(Call),
-}
+impl HostCall {
+    fn area(self) -> Area
+        ensures { result ≡ area_of self }
+    {
+        Area {
+            x: self.x,
+            y: self.y,
+            w: self.w,
+            h: self.h,
+        }
+    }
 
-fn area_of(c: HostCall) -> Area
-    ensures { result ≡ area_of c }
-{
-    Area {
-        x: c.x,
-        y: c.y,
-        w: c.w,
-        h: c.h,
+    fn at(self) -> Point
+        ensures { result ≡ at_of self }
+    {
+        Point {
+            x: self.x,
+            y: self.y,
+        }
+    }
+
+    // The point that a blit reads from.
+    fn source(self) -> Point
+        ensures { result ≡ from_of self }
+    {
+        Point {
+            x: self.src_x,
+            y: self.src_y,
+        }
     }
 }
 
-fn at_of(c: HostCall) -> Point
-    ensures { result ≡ at_of c }
-{
-    Point { x: c.x, y: c.y }
-}
-
-fn from_of(c: HostCall) -> Point
-    ensures { result ≡ from_of c }
-{
-    Point {
-        x: c.src_x,
-        y: c.src_y,
-    }
-}
-
-// Returns the call that the numbers encode.
+// Returns the call that the numbers encode, None if they are no call.
 #[tactic(auto, unfolding(crate::specs::Call::call_of))]
-pub fn call_of(c: HostCall) -> ParsedCall
+pub fn call_of(c: HostCall) -> Option<Call>
     ensures { result ≡ call_of c }
 {
-    let k = c.call;
-    let area = area_of(c);
-    let at = at_of(c);
-    let from = from_of(c);
-    match k {
-        1 => ParsedCall::Is(Call::CreateMemoryDc),
-        2 => ParsedCall::Is(Call::CreateCompatibleBitmap {
+    let call = match c.call {
+        1 => Call::CreateMemoryDc,
+        2 => Call::CreateCompatibleBitmap {
             width: c.a,
             height: c.b,
-        }),
-        3 => ParsedCall::Is(Call::CreateSolidBrush(Colorref(c.a))),
-        4 => ParsedCall::Is(Call::CreatePen {
+        },
+        3 => Call::CreateSolidBrush(Colorref(c.a)),
+        4 => Call::CreatePen {
             color: Colorref(c.a),
             width: c.b,
-        }),
-        5 => ParsedCall::Is(Call::CreateFont(c.h)),
-        6 => ParsedCall::Is(Call::Delete(c.a)),
-        7 => ParsedCall::Is(Call::Remove(c.a)),
-        8 => ParsedCall::Is(Call::SelectInto {
+        },
+        5 => Call::CreateFont(c.h),
+        6 => Call::Delete(c.a),
+        7 => Call::Remove(c.a),
+        8 => Call::SelectInto {
             dc: c.dc,
             object: c.a,
-        }),
-        9 => ParsedCall::Is(Call::SetTextColor {
+        },
+        9 => Call::SetTextColor {
             dc: c.dc,
             color: Colorref(c.a),
-        }),
-        10 => ParsedCall::Is(Call::SetTextAlign {
+        },
+        10 => Call::SetTextAlign {
             dc: c.dc,
             align: c.a,
-        }),
-        11 => ParsedCall::Is(Call::SetBkColor {
+        },
+        11 => Call::SetBkColor {
             dc: c.dc,
             color: Colorref(c.a),
-        }),
-        12 => {
-            if c.a > 1 {
-                return ParsedCall::NoCall;
-            }
-            ParsedCall::Is(Call::SetBkMode {
-                dc: c.dc,
-                transparent: c.a == 1,
-            })
-        }
-        13 => ParsedCall::Is(Call::PatternFill {
+        },
+        12 if c.a <= 1 => Call::SetBkMode {
             dc: c.dc,
-            area,
+            transparent: c.a == 1,
+        },
+        13 => Call::PatternFill {
+            dc: c.dc,
+            area: c.area(),
             rop: c.a,
-        }),
-        14 => ParsedCall::Is(Call::Rectangle { dc: c.dc, area }),
-        15 => ParsedCall::Is(Call::Text { dc: c.dc, at }),
-        16 => {
-            if c.a > 65_535 {
-                return ParsedCall::NoCall;
-            }
-            ParsedCall::Is(Call::PanelFill(Rgb565(c.a as u16)))
-        }
-        17 => ParsedCall::Is(Call::Resize {
+        },
+        14 => Call::Rectangle {
+            dc: c.dc,
+            area: c.area(),
+        },
+        15 => Call::Text {
+            dc: c.dc,
+            at: c.at(),
+        },
+        16 => Call::PanelFill(Rgb565(u16::try_from(c.a).ok()?)),
+        17 => Call::Resize {
             width: c.a,
             height: c.b,
-        }),
-        18 => ParsedCall::Is(Call::Blit {
+        },
+        18 => Call::Blit {
             dc: c.dc,
-            area,
+            area: c.area(),
             src: c.src,
-            from,
+            from: c.source(),
             rop: c.a,
-        }),
-        19 => ParsedCall::Is(Call::MoveTo { dc: c.dc, to: at }),
-        20 => ParsedCall::Is(Call::LineTo { dc: c.dc, to: at }),
-        _ => ParsedCall::NoCall,
-    }
+        },
+        19 => Call::MoveTo {
+            dc: c.dc,
+            to: c.at(),
+        },
+        20 => Call::LineTo {
+            dc: c.dc,
+            to: c.at(),
+        },
+        _ => return None,
+    };
+    Some(call)
 }

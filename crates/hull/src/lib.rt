@@ -1,12 +1,12 @@
 // Where a call drew: the smallest box that holds all its pixels.
 #![tactic(auto)]
 
-ghost use Rattle.std.specs.Prelude.{◌≡◌, ◌<◌, min, max};
+ghost use Rattle.std.specs.Prelude.{◌≡◌, ◌<◌};
 ghost use Rattle.hull.specs.Hull.{corners, nowhere};
 ghost use Rattle.hull.specs.Inner.{holds_any, join, spanning};
 
 // Columns left .. right and rows top .. bottom, right and bottom exclusive. Four zeros: no pixel.
-#[derive(Clone, Copy)]
+#[derive(Clone, Copy, Debug, Default, PartialEq, Eq)]
 pub struct Bounds {
     pub left: u32,
     pub top: u32,
@@ -18,12 +18,7 @@ pub struct Bounds {
 pub fn nowhere() -> Bounds
     ensures { result ≡ nowhere }
 {
-    Bounds {
-        left: 0,
-        top: 0,
-        right: 0,
-        bottom: 0,
-    }
+    Bounds::default()
 }
 
 // Returns the box of a whole surface.
@@ -31,10 +26,9 @@ pub fn whole(width: u32, height: u32) -> Bounds
     ensures { result ≡ corners 0 0 width height }
 {
     Bounds {
-        left: 0,
-        top: 0,
         right: width,
         bottom: height,
+        ..nowhere()
     }
 }
 
@@ -46,20 +40,21 @@ pub fn holds_any(b: Bounds) -> bool
 }
 
 // Returns the smallest box over two boxes.
+#[tactic(auto, unfolding(crate::specs::Inner::join))]
 pub fn join(a: Bounds, b: Bounds) -> Bounds
     ensures { result ≡ join a b }
 {
     if a.right == 0 {
-        return b;
-    }
-    if b.right == 0 {
-        return a;
-    }
-    Bounds {
-        left: lower(a.left, b.left),
-        top: lower(a.top, b.top),
-        right: higher(a.right, b.right),
-        bottom: higher(a.bottom, b.bottom),
+        b
+    } else if b.right == 0 {
+        a
+    } else {
+        Bounds {
+            left: a.left.min(b.left),
+            top: a.top.min(b.top),
+            right: a.right.max(b.right),
+            bottom: a.bottom.max(b.bottom),
+        }
     }
 }
 
@@ -69,21 +64,9 @@ pub fn spanning(x0: u32, y0: u32, x1: u32, y1: u32) -> Bounds
     ensures { result ≡ spanning x0 y0 x1 y1 }
 {
     Bounds {
-        left: lower(x0, x1),
-        top: lower(y0, y1),
-        right: higher(x0, x1) + 1,
-        bottom: higher(y0, y1) + 1,
+        left: x0.min(x1),
+        top: y0.min(y1),
+        right: x0.max(x1) + 1,
+        bottom: y0.max(y1) + 1,
     }
-}
-
-fn lower(a: u32, b: u32) -> u32
-    ensures { result ≡ min a b }
-{
-    if a < b { a } else { b }
-}
-
-fn higher(a: u32, b: u32) -> u32
-    ensures { result ≡ max a b }
-{
-    if a < b { b } else { a }
 }

@@ -1,7 +1,7 @@
 -- `along` by quotient and remainder, its bound and its order. Assumes nothing.
 use mathlib.Core.Path.{◌≡◌, ◌∙◌, ap}
-use Prim.Native.Nat.{ℕ, ◌+◌, ◌*◌, ◌/◌, ◌%◌, ◌^◌, ◌≤◌, ◌<◌}
-use native.Mathlib.Nat.{div-add-mod', mod-lt, mul-le-mul, mul-le-mul_right, div-lt_iff_lt-mul, le-div_iff_mul-le, div-mul-le_self}
+use Prim.Native.Nat.{ℕ, ◌+◌, ◌*◌, ◌/◌, ◌≤◌, ◌<◌}
+use native.Mathlib.Nat.{mul-le-mul_right, div-lt_iff_lt-mul, le-div_iff_mul-le, div-mul-le_self}
 use native.Mathlib.Omega.{arith}
 use lib.Arith.{digits_div}
 use Rattle.line.specs.declared.Quotient.{Quotient}
@@ -10,21 +10,8 @@ use Rattle.line.specs.Inner.{Carried}
 
 module _ (a b : ℕ) where
   -- the quotient that the code carries is `along`
-  pub along_is : {i : ℕ} {at : Quotient} → Carried a b i at → along a b i ≡ at.q
+  pub along_is : {i : ℕ} {at : Quotient} → Carried (record { long = a; short = b }) i at → along a b i ≡ at.q
   along_is {i} {at} k = ap (λ (n : ℕ). n / (2 * a)) k.sum ∙ digits_div at.q k.less
-
-  -- quotient and remainder at the start, and by a division
-  pub carried_first : {i : ℕ} → i ≡ 0 → 0 < a → Carried a b i (record { q = 0; r = a })
-  carried_first e some = rw e (record { sum = omega arith; less = omega arith })
-
-  pub carried_at : (i : ℕ) → 0 < a → Carried a b i (record { q = (i * (2 * b) + a) / (2 * a); r = (i * (2 * b) + a) % (2 * a) })
-  carried_at i some = record { sum = omega (arith, div-add-mod' (i * (2 * b) + a) (2 * a)); less = mod-lt (i * (2 * b) + a) (omega arith) }
-
-  -- the code's products are exact
-  pub products_small : (i : ℕ) → i < a → b ≤ a → a < 65536 → i * (2 * b) + a < 2 ^ 40
-  products_small i lt le small =
-      let h : i * (2 * b) ≤ 65536 * (2 * 65536) = mul-le-mul {n₁ = i} {m₁ = 2 * b} {n₂ = 65536} {m₂ = 2 * 65536} (omega arith) (omega arith) in
-      omega arith
 
   -- `along` stays within b, and never goes back
   pub along_le : (i : ℕ) → i < a → along a b i ≤ b

@@ -44,9 +44,9 @@ module _ (from to : ℤ) (i : ℕ) where
           ∙ omega (arith, difference from (pos i), difference (from -ℤ pos i) from, one_part ((from -ℤ pos i) -ℤ from))
 
 -- the visible steps, over the parts of their start
-module _ (start : ℤ) (up : Bool) (n side : ℕ) where
+module _ (start : ℤ) (up : Bool) (n side stride : ℕ) where
   abbrev axis : Axis
-  axis = visible_of start up n side
+  axis = visible_of start up n side stride
 
   begin_parts : axis.begin ≡ min (negative start) n
   unfolding visible_of
@@ -81,71 +81,71 @@ module _ (start : ℤ) (up : Bool) (n side : ℕ) where
     unfolding visible_of
     first_down e = rw (e, starts)
 
--- what `visible` finds, in either direction
-module _ (start : ℤ) (n side : ℕ) {up : Bool} {first at begin end : ℕ} (b : begin ≡ nearest (pos 0 -ℤ start) n) (e : end ≡ nearest (pos side -ℤ start) n) (f : at ≡ nearest start (side - 1)) where
-  pub visible_up : up ≡ true → first ≡ at → record { first = first; up = up; begin = begin; end = end } ≡ visible_of start up n side
-  unfolding visible_of
-  visible_up way is = rw (is, b, e, f, way)
-
-  pub visible_down : up ≡ false → first ≡ side - 1 - at → record { first = first; up = up; begin = begin; end = end } ≡ visible_of start up n side
-  unfolding visible_of
-  visible_down way is = rw (is, b, e, f, way)
-
 -- steps that go up, with start at `from`
-module _ (from to start : ℤ) (n side : ℕ) (some : 0 < side) (short : side ≤ 4096) where
+module _ (from to start : ℤ) (n side stride : ℕ) (some : 0 < side) (short : side ≤ 4096) where
   module _ (way : le_z from to ≡ true) (is : positive start + negative from ≡ positive from + negative start) where
     abbrev rise : Axis
-    rise = visible_of start true n side
+    rise = visible_of start true n side stride
 
     rise_up : rise.up ≡ true
     unfolding visible_of
     rise_up = refl
 
-    rise_at : (i : ℕ) → rise.begin ≤ i → i < rise.end → (coordinate_of rise i ≡ rise.first + (i - rise.begin)) × (rise.first + (i - rise.begin) + negative start ≡ positive start + i)
-    rise_at i h k = (rw rise_up, omega (arith, first_up start true n side i h k refl, begins start true n side i h k))
+    rise_apart : rise.stride ≡ stride
+    unfolding visible_of
+    rise_apart = refl
 
-    rise_seen : Seen from to n side rise
+    rise_at : (i : ℕ) → rise.begin ≤ i → i < rise.end → (coordinate_of rise i ≡ rise.first + (i - rise.begin)) × (rise.first + (i - rise.begin) + negative start ≡ positive start + i)
+    rise_at i h k = (rw rise_up, omega (arith, first_up start true n side stride i h k refl, begins start true n side stride i h k))
+
+    rise_seen : Seen from to n side stride rise
     rise_seen = record {
-      few = visible_few start true n side;
+      apart = rise_apart;
+      few = visible_few start true n side stride;
       on = λ i h k. record {
         from = h;
-        rising = λ e. omega (arith, (rise_at i h k).1, ends start true n side i h k);
+        rising = λ e. omega (arith, (rise_at i h k).1, ends start true n side stride i h k);
         falling = λ e. absurd (true≢false (sym rise_up ∙ e));
       };
-      within = λ i h k. omega (arith, rise_at i h k, ends start true n side i h k);
+      within = λ i h k. omega (arith, rise_at i h k, ends start true n side stride i h k);
       exact = λ i h k. toward_up from to i way ∙ eq_parts (from +ℤ pos i) (pos (coordinate_of rise i)) (omega (arith, sum from (pos i), rise_at i h k));
       all = λ i c h k e. let s : from +ℤ pos i ≡ pos c = sym (toward_up from to i way) ∙ e in
-          visible_all start true n side i h (omega (arith, sum from (pos i), ap positive s, ap negative s)) (omega (arith, sum from (pos i), ap positive s, ap negative s));
+          visible_all start true n side stride i h (omega (arith, sum from (pos i), ap positive s, ap negative s)) (omega (arith, sum from (pos i), ap positive s, ap negative s));
     }
 
-    pub seen_up : {x : Axis} → x ≡ rise → Seen from to n side x
+    pub seen_up : {x : Axis} → x ≡ rise → Seen from to n side stride x
     seen_up e = rw e rise_seen
 
   -- steps that go down, with start counted from the end of the side
   module _ (way : le_z from to ≡ false) (is : positive start + 1 + positive from ≡ side + negative from + negative start) where
     abbrev fall : Axis
-    fall = visible_of start false n side
+    fall = visible_of start false n side stride
 
     fall_down : fall.up ≡ false
     unfolding visible_of
     fall_down = refl
 
-    fall_at : (i : ℕ) → fall.begin ≤ i → i < fall.end → (coordinate_of fall i ≡ fall.first - (i - fall.begin)) × ((i - fall.begin ≤ fall.first) × (fall.first - (i - fall.begin) + positive start + i + 1 ≡ side + negative start))
-    fall_at i h k = (rw fall_down, omega (arith, first_down start false n side i h k refl, begins start false n side i h k, ends start false n side i h k))
+    fall_apart : fall.stride ≡ stride
+    unfolding visible_of
+    fall_apart = refl
 
-    fall_seen : Seen from to n side fall
+    fall_at : (i : ℕ) → fall.begin ≤ i → i < fall.end → (coordinate_of fall i ≡ fall.first - (i - fall.begin)) × ((i - fall.begin ≤ fall.first) × (fall.first - (i - fall.begin) + positive start + i + 1 ≡ side + negative start))
+    fall_at i h k = (rw fall_down, omega (arith, first_down start false n side stride i h k refl, begins start false n side stride i h k, ends start false n side stride i h k))
+
+    fall_seen : Seen from to n side stride fall
     fall_seen = record {
-      few = visible_few start false n side;
+      apart = fall_apart;
+      few = visible_few start false n side stride;
       on = λ i h k. record {
         from = h;
         rising = λ e. absurd (true≢false (sym e ∙ fall_down));
         falling = λ e. (fall_at i h k).1.0;
       };
-      within = λ i h k. omega (arith, fall_at i h k, begins start false n side i h k);
+      within = λ i h k. omega (arith, fall_at i h k, begins start false n side stride i h k);
       exact = λ i h k. toward_down from to i way ∙ eq_parts (from -ℤ pos i) (pos (coordinate_of fall i)) (omega (arith, difference from (pos i), fall_at i h k));
       all = λ i c h k e. let s : from -ℤ pos i ≡ pos c = sym (toward_down from to i way) ∙ e in
-          visible_all start false n side i h (omega (arith, difference from (pos i), ap positive s, ap negative s)) (omega (arith, difference from (pos i), ap positive s, ap negative s));
+          visible_all start false n side stride i h (omega (arith, difference from (pos i), ap positive s, ap negative s)) (omega (arith, difference from (pos i), ap positive s, ap negative s));
     }
 
-    pub seen_down : {x : Axis} → x ≡ fall → Seen from to n side x
+    pub seen_down : {x : Axis} → x ≡ fall → Seen from to n side stride x
     seen_down e = rw e fall_seen

@@ -1,4 +1,5 @@
 -- The record with a DC at another position, and the plans of moves and lines by what the lookups find. Assumes nothing.
+use Rattle.std.specs.Prelude.{Option, Some, None}
 use mathlib.Core.Bool.{Bool, true, false, cond}
 use mathlib.Core.List.{List}
 use mathlib.Core.Path.{◌≡◌, refl, sym, ◌∙◌, ap, ap₂}
@@ -7,8 +8,6 @@ use mir.Val.{SFits}
 use mir.Syntax.{w32}
 use Rattle.arithmetic.proofs.Machine.{held32, stored32}
 use Rattle.gdi.specs.declared.Dc.{Dc}
-use Rattle.gdi.specs.declared.DcFound.{DcFound}
-use Rattle.gdi.specs.declared.DcFound.TheVariants.{Is, Absent}
 use Rattle.gdi.specs.declared.GdiState.{GdiState}
 use Rattle.gdi.specs.declared.Spot.{Spot}
 use Rattle.gdi.specs.Record.{is_position}
@@ -40,26 +39,26 @@ module _ (b : GdiState) (to : Point) (p : Plan) where
   if_far e = ap (λ (t : Bool). cond t p (refuse 11 b)) e
 
 -- a DC that was found is written with its new position
-pub position_written : (l : List ℕ) (dc : ℕ) (to : Point) {p : Spot} {d d' : Dc} {l' : List ℕ} → SFits w32 to.x → SFits w32 to.y → dc_of (view l) dc ≡ Is p d
+pub position_written : (l : List ℕ) (dc : ℕ) (to : Point) {p : Spot} {d d' : Dc} {l' : List ℕ} → SFits w32 to.x → SFits w32 to.y → dc_of (view l) dc ≡ Some (p, d)
     → d' ≡ with_position d (held32 to.x) (held32 to.y) → Updated l (with_dc (view l) dc p d') l' → Updated l (moved_to (view l) dc to) l'
 position_written l dc to fx fy f g u = rw (f, ← stored32 to.x fx, ← stored32 to.y fy, ← g) u
 
-module _ (l : List ℕ) (dc : ℕ) (to : Point) {q : DcFound} (e : q ≡ dc_of (view l) dc) where
+module _ (l : List ℕ) (dc : ℕ) (to : Point) {q : Option (Spot × Dc)} (e : q ≡ dc_of (view l) dc) where
   -- a move
   module _ (ms : Memories) where
-    move_is : (r : DcFound) → q ≡ r → move_to (view l) dc to ≡ move_at (view l) dc to r
+    move_is : (r : Option (Spot × Dc)) → q ≡ r → move_to (view l) dc to ≡ move_at (view l) dc to r
     unfolding move_to
     move_is r f = ap (move_at (view l) dc to) (sym e ∙ f)
 
-    pub move_made : {p : Spot} {d : Dc} {o : Point} {l' : List ℕ} → q ≡ Is p d → is_position to.x to.y ≡ true → o ≡ position_of d → Updated l (moved_to (view l) dc to) l'
+    pub move_made : {p : Spot} {d : Dc} {o : Point} {l' : List ℕ} → q ≡ Some (p, d) → is_position to.x to.y ≡ true → o ≡ position_of d → Updated l (moved_to (view l) dc to) l'
         → Followed (move_to (view l) dc to) l ms (placed o) l' ms
-    move_made {p} {d} f near o u = acceptance_record_only refl (move_is (Is p d) f ∙ if_near (view l) to (move_on (view l) dc to d) near ∙ rw o refl) u
+    move_made {p} {d} f near o u = acceptance_record_only refl (move_is (Some (p, d)) f ∙ if_near (view l) to (move_on (view l) dc to d) near ∙ rw o refl) u
 
-    pub move_far : {p : Spot} {d : Dc} → q ≡ Is p d → is_position to.x to.y ≡ false → is_record l ≡ true → Followed (move_to (view l) dc to) l ms (refused 11) l ms
-    move_far {p} {d} f far r = refusal r (move_is (Is p d) f ∙ if_far (view l) to (move_on (view l) dc to d) far)
+    pub move_far : {p : Spot} {d : Dc} → q ≡ Some (p, d) → is_position to.x to.y ≡ false → is_record l ≡ true → Followed (move_to (view l) dc to) l ms (refused 11) l ms
+    move_far {p} {d} f far r = refusal r (move_is (Some (p, d)) f ∙ if_far (view l) to (move_on (view l) dc to d) far)
 
-    pub move_no_dc : q ≡ Absent → is_record l ≡ true → Followed (move_to (view l) dc to) l ms (refused 1) l ms
-    move_no_dc f r = refusal r (move_is Absent f)
+    pub move_no_dc : q ≡ None → is_record l ≡ true → Followed (move_to (view l) dc to) l ms (refused 1) l ms
+    move_no_dc f r = refusal r (move_is None f)
 
 -- a line by its DC's target
 pub line_on_lem : (b : GdiState) (dc : ℕ) (to : Point) → Targeted (line_to b dc to) b dc (λ s d. unless_far b to (line_on b dc to s d))
@@ -70,9 +69,9 @@ line_on_lem b dc to = record { plan = refl }
 moved_slot : (b : GdiState) (dc : ℕ) (to : Point) (u : SurfaceId) → slot_for (moved_to b dc to) u ≡ slot_for b u
 moved_slot b dc to u = by (dc_of b dc) refl
   where
-    by : (q : DcFound) → dc_of b dc ≡ q → slot_for (moved_at b dc to q) u ≡ slot_for b u
-    by (Is p d) e = updated_slot b dc _ e u
-    by Absent e = refl
+    by : (q : Option (Spot × Dc)) → dc_of b dc ≡ q → slot_for (moved_at b dc to q) u ≡ slot_for b u
+    by (Some (p, d)) e = updated_slot b dc _ e u
+    by None e = refl
 
 -- numbers that were updated to the record with a DC at another position: still lent, and every surface at its site
 module _ (l : List ℕ) {l₁ : List ℕ} (dc : ℕ) (to : Point) (near : is_position to.x to.y ≡ true) (u : Updated l (moved_to (view l) dc to) l₁) where

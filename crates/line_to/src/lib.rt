@@ -2,7 +2,6 @@
 #![tactic(auto)]
 
 ghost use Rattle.std.specs.Prelude.{true, ◌≡◌, length};
-ghost use Rattle.gdi.specs.declared.DcFound.TheVariants.{Is};
 ghost use Rattle.gdi.specs.Lookup.{dc_of};
 ghost use Rattle.numbers.specs.View.{view, is_record, Updated};
 ghost use Rattle.ready.proofs.Ready.{Lent};
@@ -11,26 +10,23 @@ ghost use Rattle.plan.specs.Lines.{position_of, moved_to, move_to, line_to};
 ghost use Rattle.plan.specs.Followed.{Followed, OnBoth, OnNumbers};
 
 use canvas::Drawing;
-use gdi::{Dc, DcFound, Spot};
-use place::Target;
+use gdi::{Dc, Spot};
 use plan::{Answer, Point};
+use refusals::Refusal;
 
 // Moves a DC to a point; returns its old position.
-pub fn move_to(numbers: &mut [u32], dc: u32, to: Point) -> Answer
+pub fn move_to(numbers: &mut [u32], dc: u32, to: Point) -> Result<Answer, Refusal>
     requires { Lent numbers.old (view numbers.old).panel_len (view numbers.old).store_len }
     ensures { OnNumbers (λ n. Followed (move_to (view n) dc to) n) numbers (parts_of result) }
 {
-    match lookup::find_dc(numbers, dc) {
-        DcFound::Is(p, d) => {
-            if gdi::is_position(to.x, to.y) {
-                let old = position_of(d);
-                set_position(numbers, dc, p, d, to);
-                return Answer::OldPosition(old);
-            }
-            Answer::Refused(refusals::POSITION)
-        }
-        DcFound::Absent => Answer::Refused(refusals::NO_DC),
+    let Some((p, d)) = lookup::find_dc(numbers, dc) else {
+        return Err(Refusal::NoDc);
+    };
+    if !gdi::is_position(to.x, to.y) {
+        return Err(Refusal::Position);
     }
+    set_position(numbers, dc, p, d, to);
+    Ok(Answer::OldPosition(position_of(d)))
 }
 
 // Draws a line in the pen colour from a DC's position to a point, without the point, and moves the DC there.
@@ -40,14 +36,14 @@ pub fn line_to(
     store: &mut [u8],
     dc: u32,
     to: Point,
-) -> Answer
+) -> Result<Answer, Refusal>
     requires { Lent numbers.old (length panel.old) (length store.old) }
     ensures { OnBoth (λ n. Followed (line_to (view n) dc to) n) numbers panel store (parts_of result) }
 {
-    match lookup::find_dc(numbers, dc) {
-        DcFound::Is(p, d) => draw_from(numbers, panel, store, dc, p, d, to),
-        DcFound::Absent => Answer::Refused(refusals::NO_DC),
-    }
+    let Some((p, d)) = lookup::find_dc(numbers, dc) else {
+        return Err(Refusal::NoDc);
+    };
+    draw_from(numbers, panel, store, dc, p, d, to)
 }
 
 // Draws the line of a DC that was found at p.
@@ -59,27 +55,30 @@ fn draw_from(
     p: Spot,
     d: Dc,
     to: Point,
-) -> Answer
+) -> Result<Answer, Refusal>
     requires lent { Lent numbers.old (length panel.old) (length store.old) }
-    requires dc_value { dc_of (view numbers.old) dc ≡ Is p d }
+    requires dc_value { dc_of (view numbers.old) dc ≡ Some (p, d) }
     ensures { OnBoth (λ n. Followed (line_to (view n) dc to) n) numbers panel store (parts_of result) }
 {
-    match place::target_at(numbers, p, d) {
-        Target::NoDc => Answer::Refused(refusals::NO_DC),
-        Target::NoSurface => Answer::Refused(refusals::NO_SURFACE),
-        Target::On(id, site, _) => {
-            if gdi::is_position(to.x, to.y) {
-                let pen = color::colorref_to_rgb565(d.pen_color);
-                let from = position_of(d);
-                set_position(numbers, dc, p, d, to);
-                let none = [0u16; 1];
-                let line = Drawing::Line { from, to };
-                draw::draw(numbers, panel, store, id, site, line, &none, pen);
-                return Answer::Drawn;
-            }
-            Answer::Refused(refusals::POSITION)
-        }
+    let target = place::target_at(numbers, p, d)?;
+    if !gdi::is_position(to.x, to.y) {
+        return Err(Refusal::Position);
     }
+    let pen = color::colorref_to_rgb565(d.pen_color);
+    let from = position_of(d);
+    set_position(numbers, dc, p, d, to);
+    let line = Drawing::Line { from, to };
+    draw::draw(
+        numbers,
+        panel,
+        store,
+        target.id,
+        target.site,
+        line,
+        &[],
+        pen,
+    );
+    Ok(Answer::Drawn)
 }
 
 // Returns a DC's position.
@@ -95,7 +94,7 @@ fn position_of(d: Dc) -> Point
 // Writes a DC, which was found at p, with another position.
 fn set_position(numbers: &mut [u32], dc: u32, p: Spot, d: Dc, to: Point)
     requires numbers_value { is_record numbers.old ≡ true }
-    requires dc_value { dc_of (view numbers.old) dc ≡ Is p d }
+    requires dc_value { dc_of (view numbers.old) dc ≡ Some (p, d) }
     ensures { Updated numbers.old (moved_to (view numbers.old) dc to) numbers.new }
 {
     let after = gdi::with_position(d, to.x, to.y);

@@ -1,5 +1,5 @@
 -- The cases of a load on a ready device, each as its plan says. Assumes nothing.
-use mathlib.Core.Bool.{Bool, true, false, cond}
+use mathlib.Core.Bool.{Bool, false, cond}
 use mathlib.Core.List.{List}
 use mathlib.Core.Path.{◌≡◌, refl, sym, ap, ap₂, subst}
 use Prim.Native.Nat.{ℕ, ◌-◌, ◌≤◌, ◌<◌}
@@ -25,31 +25,14 @@ use Rattle.plan.specs.Load.{loaded, load_table}
 use Rattle.plan.specs.Followed.{Followed}
 use Rattle.plan.proofs.Followed.{acceptance, updated_twice}
 use Rattle.load.specs.declared.Sizes.{Sizes}
-use Rattle.load.specs.Inner.{SizesIn}
+use Rattle.load.specs.Inner.{TableSizes}
 
-module _ (l bytes : List ℕ) {n k : ℕ} (lent : Lent l n k) {s : Sizes} (sizes : SizesIn bytes s) where
-  pub not_table : s.end ≡ 0 → load_table (view l) bytes ≡ refuse 12 (view l)
+module _ (l bytes : List ℕ) {n k : ℕ} (lent : Lent l n k) where
+  pub not_table : ((b : GdiState) → is_table b bytes ≡ false) → load_table (view l) bytes ≡ refuse 12 (view l)
   unfolding load_table
-  not_table z = rw (by (is_table (view l) bytes) (sizes.end (view l)))
-    where
-      by : (t : Bool) → s.end ≡ cond t (used (held_by (view l) bytes)) 0 → t ≡ false
-      by true e = absurd (omega (arith, e, z))
-      by false e = refl
+  not_table never = rw (never (view l))
 
-  module _ (some : s.end ≡ 0 → ⊥) where
-    pub is_table_lem : is_table (view l) bytes ≡ true
-    is_table_lem = by (is_table (view l) bytes) (sizes.end (view l))
-      where
-        by : (t : Bool) → s.end ≡ cond t (used (held_by (view l) bytes)) 0 → t ≡ true
-        by true e = refl
-        by false e = absurd (some e)
-
-    end_so : s.end ≡ used (held_by (view l) bytes)
-    end_so = rw is_table_lem at (sizes.end (view l))
-
-    panel_so : s.panel ≡ size (held_by (view l) bytes).width (held_by (view l) bytes).height
-    panel_so = sizes.panel (view l) is_table_lem
-
+  module _ {s : Sizes} (sizes : TableSizes bytes s) where
     -- the device's memory lengths
     panel_len : (held_by (view l) bytes).panel_len ≡ n
     unfolding record_held
@@ -59,26 +42,23 @@ module _ (l bytes : List ℕ) {n k : ℕ} (lent : Lent l n k) {s : Sizes} (sizes
     unfolding record_held
     store_len = sym lent.ready.store
 
-    pub store_begins : s.end ≤ k → 2 ≤ k
-    store_begins le = omega (arith, end_so)
-
     abbrev b : GdiState
     b = held_by (view l) bytes
 
     by_sizes : {t : Bool} → sizes_fit (held_by (view l) bytes) ≡ t → load_table (view l) bytes ≡ cond t (loaded (held_by (view l) bytes)) (refuse 7 (view l))
     unfolding load_table
-    by_sizes e = rw (is_table_lem, e)
+    by_sizes e = rw (sizes.table (view l), e)
 
     pub short_panel : n < s.panel → load_table (view l) bytes ≡ refuse 7 (view l)
-    short_panel lt = by_sizes (not_left (leb (used b) b.store_len) (lt-leb (size b.width b.height) b.panel_len (omega (arith, panel_so, panel_len))))
+    short_panel lt = by_sizes (not_left (leb (used b) b.store_len) (lt-leb (size b.width b.height) b.panel_len (omega (arith, sizes.panel (view l), panel_len))))
 
     pub short_store : k < s.end → load_table (view l) bytes ≡ refuse 7 (view l)
-    short_store lt = by_sizes (not_right (leb (size b.width b.height) b.panel_len) (lt-leb (used b) b.store_len (omega (arith, end_so, store_len))))
+    short_store lt = by_sizes (not_right (leb (size b.width b.height) b.panel_len) (lt-leb (used b) b.store_len (omega (arith, sizes.end (view l), store_len))))
 
     module _ (wide : s.panel ≤ n) (long : s.end ≤ k) where
       accepted : load_table (view l) bytes ≡ loaded (held_by (view l) bytes)
-      accepted = by_sizes (together (le-leb (size b.width b.height) b.panel_len (omega (arith, panel_so, panel_len)))
-          (le-leb (used b) b.store_len (omega (arith, end_so, store_len))))
+      accepted = by_sizes (together (le-leb (size b.width b.height) b.panel_len (omega (arith, sizes.panel (view l), panel_len)))
+          (le-leb (used b) b.store_len (omega (arith, sizes.end (view l), store_len))))
 
       pub table_loaded : {l₁ l' panel panel' store store' : List ℕ} → panel' ≡ blanked panel 0 s.panel → store' ≡ blanked store 2 (k - 2)
           → Updated l (held_by (view l) bytes) l₁ → Updated l₁ (dirtied (view l₁) Panel) l' → Followed (load_table (view l) bytes) l (memories panel store) done l' (memories panel' store')
@@ -86,4 +66,4 @@ module _ (l bytes : List ℕ) {n k : ℕ} (lent : Lent l n k) {s : Sizes} (sizes
       table_loaded {l₁} {l'} {panel} {panel'} {store} {store'} p q read mark =
           acceptance refl (ap (λ (x : Plan). x.outcome) accepted)
           (updated_twice (dirtied_count (held_by (view l) bytes) Panel) read (subst (λ (b : GdiState). Updated l₁ (dirtied b Panel) l') read.same mark))
-          (rw accepted (rw (← panel_so, store_len) (ap₂ memories p q)))
+          (rw accepted (rw (← sizes.panel (view l), store_len) (ap₂ memories p q)))

@@ -12,84 +12,75 @@ ghost use Rattle.plan.specs.Calls.{load as asked};
 ghost use Rattle.plan.specs.Followed.{Followed, Performed, OnBoth};
 ghost use Rattle.load.specs.Inner.{SizesIn};
 
-use gdi::Found;
 use numbers::{HEIGHT, RECORD, WIDTH};
 use place::SurfaceId;
 use plan::Answer;
+use refusals::Refusal;
 use saved_table::MAX_TABLE;
 
 // Loads a table into a device. Bytes that are not exactly one table are refused with 12, a table whose pixels the memories do not hold
 // with 7. The loaded panel and the store behind the stock bitmap turn black. A refused load changes no number and no byte.
-pub fn load(numbers: &mut [u32], bytes: &[u8], panel: &mut [u8], store: &mut [u8]) -> Answer
+pub fn load(
+    numbers: &mut [u32],
+    bytes: &[u8],
+    panel: &mut [u8],
+    store: &mut [u8],
+) -> Result<Answer, Refusal>
     ensures { OnBoth (Performed (asked bytes.now)) numbers panel store (parts_of result) }
 {
-    let no = ready::common_refusal(numbers, panel.len(), store.len());
-    if no != 0 {
-        return Answer::Refused(no);
-    }
+    ready::check(numbers, panel.len(), store.len())?;
     load_ready(numbers, bytes, panel, store)
 }
 
 // The same on a ready device.
-fn load_ready(numbers: &mut [u32], bytes: &[u8], panel: &mut [u8], store: &mut [u8]) -> Answer
+fn load_ready(
+    numbers: &mut [u32],
+    bytes: &[u8],
+    panel: &mut [u8],
+    store: &mut [u8],
+) -> Result<Answer, Refusal>
     requires { Lent numbers.old (length panel.old) (length store.old) }
     ensures { OnBoth (λ n. Followed (load_table (view n) bytes.now) n) numbers panel store (parts_of result) }
 {
-    let sizes = sizes_in(bytes);
-    let end = sizes.end;
-    let n = sizes.panel;
-    if end == 0 {
-        return Answer::Refused(refusals::TABLE);
+    let Some(sizes) = sizes_in(bytes) else {
+        return Err(Refusal::Table);
+    };
+    if sizes.panel > panel.len() || sizes.end > store.len() {
+        return Err(Refusal::TooShort);
     }
-    if n > panel.len() {
-        return Answer::Refused(refusals::TOO_SHORT);
-    }
-    if end > store.len() {
-        return Answer::Refused(refusals::TOO_SHORT);
-    }
-    memory::zero(panel, 0, n);
+    memory::zero(panel, 0, sizes.panel);
     memory::zero(store, 2, store.len() - 2);
     unpack::read_table(bytes, numbers);
-    dirty::mark_dirty(numbers, SurfaceId::Panel, Found::Nothing);
-    Answer::Drawn
+    dirty::mark_dirty(numbers, SurfaceId::Panel, None);
+    Ok(Answer::Drawn)
 }
 
-// What a load asks of a table: the bytes of the panel's pixels, and the end of the store's pixels, which is 0 if the bytes are no
-// table.
+// What a load asks of a table: the bytes of the panel's pixels, and the end of the store's pixels.
 #[derive(Clone, Copy)]
 struct Sizes {
     panel: usize,
     end: usize,
 }
 
-fn no_table() -> Sizes
-    ensures { result ≡ record { panel = 0; end = 0 } }
-{
-    Sizes { panel: 0, end: 0 }
-}
-
-// Returns the sizes of the table that the bytes are.
-fn sizes_in(bytes: &[u8]) -> Sizes
+// Returns the sizes of the table that the bytes are, if they are one.
+fn sizes_in(bytes: &[u8]) -> Option<Sizes>
     ensures { SizesIn bytes.now result }
 {
     if !unpack::is_complete(bytes) {
-        return no_table();
+        return None;
     }
     let mut numbers = [0u32; RECORD];
     unpack::read_table(bytes, &mut numbers);
-    let end = ready::sound_end(&numbers);
-    if end == 0 {
-        return no_table();
-    }
+    let end = ready::sound_end(&numbers)?;
     if !is_table_of(&numbers, bytes) {
-        return no_table();
+        return None;
     }
     let w = numbers[WIDTH] as usize;
     let h = numbers[HEIGHT] as usize;
-    Sizes {
+    Some(Sizes {
         panel: 2 * (w * h),
         end,
-    }
+    })
 }
 
 // Returns whether the bytes are the table of a record.
@@ -98,10 +89,7 @@ fn is_table_of(numbers: &[u32], bytes: &[u8]) -> bool
     ensures { result ≡ equal (saved_table (view numbers.now)) bytes.now }
 {
     let n = pack::table_len(numbers);
-    if n != bytes.len() {
-        return false;
-    }
     let mut table = [0u8; MAX_TABLE];
     pack::put_table(numbers, &mut table);
-    bits::is_equal(&table[0..n], &bytes[0..n])
+    bits::is_equal(&table[..n], bytes)
 }

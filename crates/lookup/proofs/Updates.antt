@@ -1,4 +1,5 @@
 -- A flat record into which a DC was written is the record with that DC. Assumes nothing.
+use Rattle.std.specs.Prelude.{Some}
 use mathlib.Core.Bool.{true}
 use mathlib.Core.List.{List, ◌++◌}
 use mathlib.Core.Path.{◌≡◌, sym, ◌∙◌, ap}
@@ -11,8 +12,6 @@ use Rattle.words.proofs.Parts.{length_part, with_before, part_same}
 use Rattle.gdi.specs.declared.Dc.{Dc}
 use Rattle.gdi.specs.declared.Spot.{Spot}
 use Rattle.gdi.specs.declared.Spot.TheVariants.{Screen, Created}
-use Rattle.gdi.specs.declared.Found.TheVariants.{At}
-use Rattle.gdi.specs.declared.DcFound.TheVariants.{Is}
 use Rattle.gdi.specs.declared.GdiObject.{GdiObject}
 use Rattle.gdi.specs.declared.GdiObject.TheVariants.{Dc as DcOf}
 use Rattle.gdi.specs.Lookup.{object_at, find_of}
@@ -59,8 +58,8 @@ module _ (l : List ℕ) (r : is_record l ≡ true) where
 
   -- a created DC
   module _ (h : ℕ) {i : ℕ} {p : Spot} (s : HasDc (view l) h p) (e : p ≡ Created i) where
-    found : (find_of (view l) h ≡ At i) × (object_at (view l) i ≡ DcOf s.dc)
-    found = dc_found_lem (view l) h (s.found ∙ ap (λ (q : Spot). Is q s.dc) e)
+    found : (find_of (view l) h ≡ Some i) × (object_at (view l) i ≡ DcOf s.dc)
+    found = dc_found_lem (view l) h (s.found ∙ ap (λ (q : Spot). Some (q, s.dc)) e)
 
     pub spot_below : i < at l count_place
     spot_below = found_in l h found.0

@@ -11,47 +11,40 @@ ghost use Rattle.numbers.specs.View.{view, is_record, Updated};
 ghost use Rattle.lookup.specs.Inner.{HasDc};
 
 use color::Colorref;
-use gdi::{Dc, DcFound, Found, GDI_SCREEN_DC, Kind, Spot};
+use gdi::{Dc, GDI_SCREEN_DC, Kind, Spot};
 use numbers::{COUNT, KIND, OBJECT, SLOT, SLOTS};
 
 // Returns the slot of the created object with this handle.
-pub fn find(numbers: &[u32], handle: u32) -> Found
+pub fn find(numbers: &[u32], handle: u32) -> Option<usize>
     requires { is_record numbers.now ≡ true }
     ensures { result ≡ find_of (view numbers.now) handle }
 {
     let n = numbers[COUNT] as usize;
-    let mut i: usize = 0;
-    while i < n {
+    for i in 0..n {
         if numbers[SLOTS + SLOT * i] == handle {
-            return Found::At(i);
+            return Some(i);
         }
-        i += 1;
     }
-    Found::Nothing
+    None
 }
 
 // Returns the DC with this handle, and where it is stored.
-pub fn find_dc(numbers: &[u32], handle: u32) -> DcFound
+#[tactic(auto, using(crate::proofs::Found::found_room))]
+pub fn find_dc(numbers: &[u32], handle: u32) -> Option<(Spot, Dc)>
     requires { is_record numbers.now ≡ true }
     ensures { result ≡ dc_of (view numbers.now) handle }
 {
     if handle == GDI_SCREEN_DC {
         let d = numbers::dc_of(&numbers[numbers::SCREEN..SLOTS]);
-        return DcFound::Is(Spot::Screen, d);
+        return Some((Spot::Screen, d));
     }
-    match find(numbers, handle) {
-        Found::At(i) => {
-            let p = SLOTS + SLOT * i;
-            if numbers[p + KIND] != 0 {
-                return DcFound::Absent;
-            }
-            let first = p + OBJECT;
-            let end = p + SLOT;
-            let d = numbers::dc_of(&numbers[first..end]);
-            DcFound::Is(Spot::Created(i), d)
-        }
-        Found::Nothing => DcFound::Absent,
+    let i = find(numbers, handle)?;
+    let p = SLOTS + SLOT * i;
+    if numbers[p + KIND] != 0 {
+        return None;
     }
+    let d = numbers::dc_of(&numbers[p + OBJECT..p + SLOT]);
+    Some((Spot::Created(i), d))
 }
 
 // Returns the kind of the object in the slot at number p, with the colour that a selection copies.
@@ -74,8 +67,8 @@ pub fn find_kind(numbers: &[u32], handle: u32) -> Kind
     ensures { result ≡ kind_of (view numbers.now) handle }
 {
     match find(numbers, handle) {
-        Found::At(i) => { kind_at(numbers, SLOTS + SLOT * i) }
-        Found::Nothing => gdi::stock_kind(handle),
+        Some(i) => kind_at(numbers, SLOTS + SLOT * i),
+        None => gdi::stock_kind(handle),
     }
 }
 
@@ -86,14 +79,10 @@ pub fn update_dc(numbers: &mut [u32], handle: u32, spot: Spot, d: Dc)
     ensures { Updated numbers.old (with_dc (view numbers.old) handle spot d) numbers.new }
 {
     match spot {
-        Spot::Screen => {
-            encode::put_dc(&mut numbers[numbers::SCREEN..SLOTS], d);
-        }
+        Spot::Screen => encode::put_dc(&mut numbers[numbers::SCREEN..SLOTS], d),
         Spot::Created(i) => {
             let p = SLOTS + SLOT * i;
-            let first = p + OBJECT;
-            let end = p + SLOT;
-            encode::put_dc(&mut numbers[first..end], d);
+            encode::put_dc(&mut numbers[p + OBJECT..p + SLOT], d);
         }
     }
 }

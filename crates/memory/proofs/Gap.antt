@@ -2,10 +2,9 @@
 use mathlib.Core.List.{List, [], ◌∷◌, ◌++◌, append_assoc}
 use mathlib.Core.Path.{◌≡◌, refl, sym, ◌∙◌, ap}
 use Prim.Native.Nat.{ℕ, suc, ◌+◌, ◌-◌, ◌≤◌, ◌<◌}
-use native.Mathlib.Numerals.{add-one}
 use native.Mathlib.Omega.{arith}
 use lib.ListN.{length, take, drop, get_or, set, replicate, length-replicate, length-take, length-drop, length-append, take-append-drop, get_or-replicate, get_or-append}
-use lib.Seq.{get_or-take, get_or-drop, get_or-append-add, ext_get_or, length-take-le, take_all, drop-drop, paste, paste-zero, paste-suc, take-paste, drop-paste}
+use lib.Seq.{get_or-take, get_or-drop, get_or-append-add, ext_get_or, length-take-le, drop-drop, paste, paste-zero, paste-suc, take-paste, drop-paste}
 use Rattle.memory.specs.Gap.{closed_up}
 
 module _ {ℓ} {A : Type ℓ} (z : A) (l : List A) (p n used : ℕ) (gap : p + n ≤ used) (fits : used ≤ length l) where
@@ -78,9 +77,9 @@ module _ {ℓ} {A : Type ℓ} (z : A) (l : List A) (p n used : ℕ) (gap : p + n
       ∙ ap (λ (j : ℕ). get_or l j d) f
       ∙ sym (get_or-take k (drop (q + n) l) i d c ∙ get_or-drop (q + n) l i d))
 
-  -- the two loops: a move down, and a fill of the freed end
-  pub two_pastes : (t : List A) → t ≡ paste l p (drop (p + n) l) (used - n - p) → paste t (used - n) (replicate n z) n ≡ closed_up z l p n used
-  two_pastes t e =
+  -- a move down, and a fill of the freed end
+  pub moved_filled : (t : List A) → t ≡ paste l p (drop (p + n) l) (used - n - p) → take (used - n) t ++ (replicate n z ++ drop (used - n + n) t) ≡ closed_up z l p n used
+  moved_filled t e =
       let m : used - n ≡ p + (used - n - p) = omega arith in
       let k : used - (p + n) ≡ used - n - p = omega arith in
       let f : p + (used - n - p) + n ≡ used = omega arith in
@@ -88,10 +87,7 @@ module _ {ℓ} {A : Type ℓ} (z : A) (l : List A) (p n used : ℕ) (gap : p + n
       let top : take (p + (used - n - p)) t ≡ take p l ++ take (used - n - p) (drop (p + n) l) = rw e (take-paste l p (drop (p + n) l) (used - n - p) (omega arith) ld) in
       let low : drop (p + (used - n - p)) t ≡ drop (p + (used - n - p)) l = rw e (drop-paste l p (drop (p + n) l) (used - n - p) (omega arith) ld) in
       let end : drop (p + (used - n - p) + n) t ≡ drop used l = sym (drop-drop n (p + (used - n - p)) t) ∙ ap (drop n) low ∙ drop-drop n (p + (used - n - p)) l ∙ ap (λ (i : ℕ). drop i l) f in
-      let all : take n (replicate n z) ≡ replicate n z = take_all n (replicate n z) (omega (arith, length-replicate n z)) in
-      rw (m, top, end, all, k)
-      (append_assoc (take p l ++ take (used - n - p) (drop (p + n) l)) (replicate n z) (drop used l)
-      ∙ append_assoc (take p l) (take (used - n - p) (drop (p + n) l)) (replicate n z ++ drop used l))
+      rw (m, top, end, k) (append_assoc (take p l) (take (used - n - p) (drop (p + n) l)) (replicate n z ++ drop used l))
 
 -- an empty gap
 pub closed_none {ℓ} : {A : Type ℓ} (z : A) (l : List A) (p n used : ℕ) → n ≡ 0 → p ≤ used → l ≡ closed_up z l p n used
@@ -114,16 +110,6 @@ module _ {ℓ} {A : Type ℓ} (l : List A) (p n : ℕ) where
       let same : drop j t ≡ drop j l = rw i at low in
       let v : get_or t (j + n) d ≡ get_or (drop (p + n) l) (j - p) d = sym (get_or-drop j t n d) ∙ ap (λ (x : List A). get_or x n d) same ∙ get_or-drop j l n d ∙ ap (λ (k : ℕ). get_or l k d) (omega arith) ∙ sym (get_or-drop (p + n) l (j - p) d) in
       rw (v, f) (rw (← e, i) at (paste-suc l p (drop (p + n) l) (j - p) d (omega arith) ld))
-
--- the loop that fills
-module _ {ℓ} {A : Type ℓ} (z : A) (l : List A) (p n : ℕ) where
-  pub filled_more : (t : List A) (j : ℕ) → j < n → p + n ≤ length l → t ≡ paste l p (replicate n z) j → set t (p + j) z ≡ paste l p (replicate n z) (j + 1)
-  filled_more t j lt le e =
-      let len : length (replicate n z) ≡ n = length-replicate n z in
-      rw add-one (rw (← e, get_or-replicate n j z z lt) at (paste-suc l p (replicate n z) j z (omega arith) (omega arith)))
-
-  pub filled_all : paste l p (replicate n z) n ≡ take p l ++ (replicate n z ++ drop (p + n) l)
-  filled_all = rw (take_all n (replicate n z) (omega (arith, length-replicate n z))) (append_assoc (take p l) (replicate n z) (drop (p + n) l))
 
 -- two elements of six removed, of which five are used
 example : closed_up {A = ℕ} 0 (1 ∷ 2 ∷ 3 ∷ 4 ∷ 5 ∷ 6 ∷ []) 1 2 5 ≡ 1 ∷ 4 ∷ 5 ∷ 0 ∷ 0 ∷ 6 ∷ []

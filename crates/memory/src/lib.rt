@@ -10,11 +10,7 @@ pub fn zero(mem: &mut [u8], p: usize, n: usize)
     requires { p + n ≤ length mem.old }
     ensures { mem.new ≡ blanked mem.old p n }
 {
-    let mut j: usize = 0;
-    while j < n {
-        mem[p + j] = 0;
-        j += 1;
-    }
+    mem[p..p + n].fill(0);
 }
 
 // Moves the bytes from p + n to end + n down to p.
@@ -22,14 +18,11 @@ pub fn move_down(mem: &mut [u8], p: usize, n: usize, end: usize)
     requires { (p ≤ end) × (end + n ≤ length mem.old) }
     ensures { mem.new ≡ paste mem.old p (drop (p + n) mem.old) (end - p) }
 {
-    let mut j = p;
-    while j < end {
-        mem[j] = mem[j + n];
-        j += 1;
-    }
+    mem.copy_within(p + n..end + n, p);
 }
 
 // Removes the n bytes from p on: the bytes after them, up to used, move down, and the freed tail is zeroed.
+#[tactic(auto, using(crate::proofs::Gap::closed_none, crate::proofs::Gap::moved_filled))]
 pub fn close_up(mem: &mut [u8], p: usize, n: usize, used: usize)
     requires { (p + n ≤ used) × (used ≤ length mem.old) }
     ensures { mem.new ≡ closed_up 0 mem.old p n used }

@@ -1,4 +1,5 @@
 -- The pixels tainted after each call are those that document 01 names, and no others. Assumes nothing.
+use Rattle.std.specs.Prelude.{Some, None}
 use mathlib.Core.Bool.{Bool, true, false, cond, ◌||◌, not}
 use mathlib.Core.List.{List, []}
 use mathlib.Core.Logic.Iff
@@ -13,7 +14,6 @@ use Rattle.text.specs.Ink.{unit_count, text_ink}
 use Rattle.gdi.specs.declared.GdiState.{GdiState}
 use Rattle.gdi.specs.declared.GdiObject.{GdiObject}
 use Rattle.gdi.specs.declared.Dc.{Dc}
-use Rattle.gdi.specs.declared.Found.TheVariants.{At, Nothing}
 use Rattle.gdi.specs.Record.{size, bytes_of, is_position}
 use Rattle.gdi.specs.Stock.{is_stock, stock_bitmap}
 use Rattle.gdi.specs.Lookup.{find_of}
@@ -23,8 +23,7 @@ use Rattle.saved_table.specs.Held.{held_by, is_table}
 use Rattle.place.specs.declared.Site.{Site}
 use Rattle.place.specs.declared.SurfaceId.{SurfaceId}
 use Rattle.place.specs.declared.SurfaceId.TheVariants.{Panel, Bitmap}
-use Rattle.place.specs.declared.Target.TheVariants.{On}
-use Rattle.place.specs.Place.{same, where_is, target_of}
+use Rattle.place.specs.Place.{same, where_is, target_of, on}
 use Rattle.place.proofs.Apart.{clash}
 use Rattle.handles.specs.Handles.{new_handle}
 use Rattle.paint.specs.Paint.{draw, closing}
@@ -108,7 +107,7 @@ module _ (b : GdiState) (n k : ℕ) (us : List ℕ) (m : Taint) where
       by true f = unpainted_plan (call c us) {p = act c us b} (rw f) z
       by false f = unpainted_plan (call c us) {p = refuse (common_refusal b n k) b} (rw f) refl
 
-  module _ (dc : ℕ) (a : Area) (s : SurfaceId) (i : Site) (d : Dc) (e : target_of b dc ≡ On s i d) where
+  module _ (dc : ℕ) (a : Area) (s : SurfaceId) (i : Site) (d : Dc) (e : target_of b dc ≡ on s i d) where
     fill_plan : (rop : ℕ) → pattern_fill b dc a rop ≡ pattern_fill_on b a (table_of rop) s d
     unfolding pattern_fill
     fill_plan rop = rw e
@@ -133,7 +132,7 @@ module _ (b : GdiState) (n k : ℕ) (us : List ℕ) (m : Taint) where
           is : blit b dc a src p rop ≡ pattern_fill b dc a rop
           is = unfold blit in rw f
 
-      blit_taint : (q : SurfaceId) (j : Site) (o : Dc) → uses_src (table_of rop) ≡ true → target_of b src ≡ On q j o
+      blit_taint : (q : SurfaceId) (j : Site) (o : Dc) → uses_src (table_of rop) ≡ true → target_of b src ≡ on q j o
           → Exactly m (taint_by b n k us m (Blit dc a src p rop)) s (blit_box (where_is b q) a p) (λ x y. by_destination m rop s x y ⊎ by_source m rop q a p x y)
       unfolding act paints_of tainted
       blit_taint q j o f g =
@@ -143,7 +142,7 @@ module _ (b : GdiState) (n k : ℕ) (us : List ℕ) (m : Taint) where
           is : blit b dc a src p rop ≡ blit_on b a p (table_of rop) s d q
           is = unfold blit in rw (f, e, g)
 
-  text_taint : (dc : ℕ) (at : Point) (s : SurfaceId) (i : Site) (d : Dc) → number b n k us (Text dc at) ≡ 0 → target_of b dc ≡ On s i d
+  text_taint : (dc : ℕ) (at : Point) (s : SurfaceId) (i : Site) (d : Dc) → number b n k us (Text dc at) ≡ 0 → target_of b dc ≡ on s i d
       → Untaints m (taint_by b n k us m (Text dc at)) s (text_ink us (unit_count us) at.x at.y)
   unfolding act paints_of tainted
   text_taint dc at s i d z e = by_plan (Text dc at) (accepted_plan (Text dc at) z ∙ is) (solid_exact m s _ _)
@@ -158,7 +157,7 @@ module _ (b : GdiState) (n k : ℕ) (us : List ℕ) (m : Taint) where
       is : text b us dc at ≡ text_on b us (unit_count us) at s d
       is = shown ∙ by (leb (unit_count us) 65535) (ap refusal_number (sym (accepted_plan (Text dc at) z ∙ shown)) ∙ z)
 
-  line_taint : (dc : ℕ) (to : Point) (s : SurfaceId) (i : Site) (d : Dc) → number b n k us (LineTo dc to) ≡ 0 → target_of b dc ≡ On s i d
+  line_taint : (dc : ℕ) (to : Point) (s : SurfaceId) (i : Site) (d : Dc) → number b n k us (LineTo dc to) ≡ 0 → target_of b dc ≡ on s i d
       → Untaints m (taint_by b n k us m (LineTo dc to)) s (line_of (position_of d) to)
   unfolding act paints_of tainted
   line_taint dc to s i d z e = by_plan (LineTo dc to) (accepted_plan (LineTo dc to) z ∙ is) (solid_exact m s _ _)
@@ -231,11 +230,11 @@ module _ (b : GdiState) (n k : ℕ) (us : List ℕ) (m : Taint) where
 
     -- an object that is deleted or removed, or stays
     module _ (stock : Parts) (answer : ℕ → Parts) (none : Parts) where
-      goes_plan : (i : ℕ) → is_stock h ≡ false → find_of b h ≡ At i → (deletion_of stock answer none b h).paint ≡ closing b h i
+      goes_plan : (i : ℕ) → is_stock h ≡ false → find_of b h ≡ Some i → (deletion_of stock answer none b h).paint ≡ closing b h i
       unfolding deletion_of
       goes_plan i e f = rw (e, f)
 
-      stays_plan : (is_stock h ≡ true) ⊎ (find_of b h ≡ Nothing) → (deletion_of stock answer none b h).paint ≡ []
+      stays_plan : (is_stock h ≡ true) ⊎ (find_of b h ≡ None) → (deletion_of stock answer none b h).paint ≡ []
       unfolding deletion_of
       stays_plan (inl e) = rw e
       stays_plan (inr f) = by (is_stock h)

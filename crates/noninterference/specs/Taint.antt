@@ -1,20 +1,18 @@
 -- The taint after a call, exactly: a field for each sentence of document 01's 'Marked pixels'. The claim alone would also hold of
 -- too much taint.
-use Rattle.std.specs.Prelude.{Bool, true, false, not, ◌||◌, List, [], ◌∷◌, ◌⊎◌, ◌≡◌, ℕ, ℤ}
+use Rattle.std.specs.Prelude.{Bool, true, false, not, ◌||◌, List, [], ◌∷◌, ◌⊎◌, ◌≡◌, ℕ, ℤ, Some, None}
 use Rattle.color.specs.declared.Colorref.{Colorref}
 use Rattle.color.specs.declared.Rgb565.{Rgb565}
 use Rattle.rop3.specs.Rop3.{table_of, uses_src, uses_dst}
 use Rattle.text.specs.Ink.{unit_count, text_ink}
 use Rattle.gdi.specs.declared.GdiState.{GdiState}
 use Rattle.gdi.specs.declared.Dc.{Dc}
-use Rattle.gdi.specs.declared.Found.TheVariants.{At, Nothing}
 use Rattle.gdi.specs.Stock.{is_stock, stock_bitmap}
 use Rattle.gdi.specs.Lookup.{find_of}
 use Rattle.place.specs.declared.Site.{Site}
 use Rattle.place.specs.declared.SurfaceId.{SurfaceId}
 use Rattle.place.specs.declared.SurfaceId.TheVariants.{Panel, Bitmap}
-use Rattle.place.specs.declared.Target.TheVariants.{On}
-use Rattle.place.specs.Place.{same, where_is, target_of}
+use Rattle.place.specs.Place.{same, where_is, target_of, on}
 use Rattle.paint.specs.Taint.{Taint, Keeps, Exactly, Untaints, Clears, everywhere}
 use Rattle.plan.specs.Answer.{answered}
 use Rattle.plan.specs.declared.Area.{Area}
@@ -72,24 +70,24 @@ module _ (b : GdiState) (panel_len store_len : ℕ) (units : List ℕ) where
   -- For every call and every outcome: which pixels are drawn, and which are tainted afterwards.
   pub record ExactTaint (m : Taint) : Type 0 where
     -- pixels drawn without a code are not tainted afterwards: a fill, an outline, ink, a line, a panel fill, an effective resize
-    pub rectangle : (dc : ℕ) (a : Area) (s : SurfaceId) (i : Site) (d : Dc) → number (Rectangle dc a) ≡ 0 → target_of b dc ≡ On s i d
+    pub rectangle : (dc : ℕ) (a : Area) (s : SurfaceId) (i : Site) (d : Dc) → number (Rectangle dc a) ≡ 0 → target_of b dc ≡ on s i d
         → Untaints m (taint_by m (Rectangle dc a)) s (λ x y. box_of a x y || rim_of a x y)
-    pub text : (dc : ℕ) (at : Point) (s : SurfaceId) (i : Site) (d : Dc) → number (Text dc at) ≡ 0 → target_of b dc ≡ On s i d
+    pub text : (dc : ℕ) (at : Point) (s : SurfaceId) (i : Site) (d : Dc) → number (Text dc at) ≡ 0 → target_of b dc ≡ on s i d
         → Untaints m (taint_by m (Text dc at)) s (text_ink units (unit_count units) at.x at.y)
-    pub line : (dc : ℕ) (to : Point) (s : SurfaceId) (i : Site) (d : Dc) → number (LineTo dc to) ≡ 0 → target_of b dc ≡ On s i d
+    pub line : (dc : ℕ) (to : Point) (s : SurfaceId) (i : Site) (d : Dc) → number (LineTo dc to) ≡ 0 → target_of b dc ≡ on s i d
         → Untaints m (taint_by m (LineTo dc to)) s (line_of (position_of d) to)
     pub panel_fill : (c : Rgb565) → number (PanelFill c) ≡ 0 → Untaints m (taint_by m (PanelFill c)) Panel everywhere
     pub resize : (w h : ℕ) → number (Resize w h) ≡ 0 → no_effect b w h ≡ false → Untaints m (taint_by m (Resize w h)) Panel everywhere
     -- under a raster code a drawn pixel is tainted afterwards exactly if the code uses D and the pixel was tainted
-    pub pattern_fill : (dc : ℕ) (a : Area) (rop : ℕ) (s : SurfaceId) (i : Site) (d : Dc) → number (PatternFill dc a rop) ≡ 0 → target_of b dc ≡ On s i d
+    pub pattern_fill : (dc : ℕ) (a : Area) (rop : ℕ) (s : SurfaceId) (i : Site) (d : Dc) → number (PatternFill dc a rop) ≡ 0 → target_of b dc ≡ on s i d
         → Exactly m (taint_by m (PatternFill dc a rop)) s (box_of a) (by_destination m rop s)
     -- or the call is a blit whose code uses S and the pixel's source pixel was tainted before the call
     pub blit : (dc : ℕ) (a : Area) (src : ℕ) (p : Point) (rop : ℕ) (s q : SurfaceId) (i j : Site) (d e : Dc) → number (Blit dc a src p rop) ≡ 0
-        → uses_src (table_of rop) ≡ true → target_of b dc ≡ On s i d → target_of b src ≡ On q j e
+        → uses_src (table_of rop) ≡ true → target_of b dc ≡ on s i d → target_of b src ≡ on q j e
         → Exactly m (taint_by m (Blit dc a src p rop)) s (blit_box (where_is b q) a p) (λ x y. by_destination m rop s x y ⊎ by_source m rop q a p x y)
     -- a blit whose code ignores S is a pattern fill
     pub blit_ignoring : (dc : ℕ) (a : Area) (src : ℕ) (p : Point) (rop : ℕ) (s : SurfaceId) (i : Site) (d : Dc) → number (Blit dc a src p rop) ≡ 0
-        → uses_src (table_of rop) ≡ false → target_of b dc ≡ On s i d
+        → uses_src (table_of rop) ≡ false → target_of b dc ≡ on s i d
         → Exactly m (taint_by m (Blit dc a src p rop)) s (box_of a) (by_destination m rop s)
     -- pixels not drawn keep their taint, and a refused call keeps all: a selection, a setting, a move, a resize without effect, a save,
     -- and a deletion or removal of a stock or absent handle draw no pixel
@@ -97,11 +95,11 @@ module _ (b : GdiState) (panel_len store_len : ℕ) (units : List ℕ) where
     pub save : (room : ℕ) → Keeps m (taint_for m (save_into room))
     pub set : (c : Call) → Sets c → Keeps m (taint_by m c)
     pub not_resized : (w h : ℕ) → no_effect b w h ≡ true → Keeps m (taint_by m (Resize w h))
-    pub not_deleted : (h : ℕ) → (is_stock h ≡ true) ⊎ (find_of b h ≡ Nothing) → Keeps m (taint_by m (Delete h))
-    pub not_removed : (h : ℕ) → (is_stock h ≡ true) ⊎ (find_of b h ≡ Nothing) → Keeps m (taint_by m (Remove h))
+    pub not_deleted : (h : ℕ) → (is_stock h ≡ true) ⊎ (find_of b h ≡ None) → Keeps m (taint_by m (Delete h))
+    pub not_removed : (h : ℕ) → (is_stock h ≡ true) ⊎ (find_of b h ≡ None) → Keeps m (taint_by m (Remove h))
     -- a bitmap that is deleted or removed has no taint; field `resize` says the same of pixels outside a resized panel
-    pub deleted : (h i : ℕ) → number (Delete h) ≡ 0 → is_stock h ≡ false → find_of b h ≡ At i → Untaints m (taint_by m (Delete h)) (Bitmap h) everywhere
-    pub removed : (h i : ℕ) → number (Remove h) ≡ 0 → is_stock h ≡ false → find_of b h ≡ At i → Untaints m (taint_by m (Remove h)) (Bitmap h) everywhere
+    pub deleted : (h i : ℕ) → number (Delete h) ≡ 0 → is_stock h ≡ false → find_of b h ≡ Some i → Untaints m (taint_by m (Delete h)) (Bitmap h) everywhere
+    pub removed : (h i : ℕ) → number (Remove h) ≡ 0 → is_stock h ≡ false → find_of b h ≡ Some i → Untaints m (taint_by m (Remove h)) (Bitmap h) everywhere
     -- a new bitmap has no taint
     pub created : (c : Call) (h : ℕ) → Creates c → (plan (call c units) b panel_len store_len).outcome.answer ≡ answered h
         → Untaints m (taint_by m c) (Bitmap h) everywhere

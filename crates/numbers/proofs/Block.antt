@@ -1,11 +1,10 @@
 -- Numbers that encode a DC or a slot, and laws of blocks of numbers. Assumes nothing.
 use mathlib.Core.Bool.{Bool, true, false}
-use mathlib.Core.List.{List, [], ◌∷◌, ◌++◌, append-nil}
-use mathlib.Core.Path.{◌≡◌, refl, ◌∙◌, ap}
-use Prim.Native.Nat.{ℕ, ◌+◌}
-use native.Mathlib.Omega.{arith}
-use lib.ListN.{length, take, drop}
-use lib.Seq.{sets, sets-eq, drop-length, drop-drop}
+use mathlib.Core.List.{List, [], ◌∷◌, ◌++◌}
+use mathlib.Core.Path.{◌≡◌, refl, ap}
+use Prim.Native.Nat.{ℕ}
+use lib.ListN.{take, drop}
+use lib.Seq.{drop-drop}
 use borrow.Author.Tests.{ne_eqb}
 use Rattle.words.specs.Parts.{with_part}
 use Rattle.gdi.specs.declared.DcSurface.{DcSurface}
@@ -33,12 +32,6 @@ pub record SlotCoded (s : Slot) (l : List ℕ) : Type 0 where
 pub no_kind : (kind : ℕ) (l : List ℕ) → (kind ≡ 0 → ⊥) → (kind ≡ 1 → ⊥) → (kind ≡ 2 → ⊥) → (kind ≡ 3 → ⊥) → (kind ≡ 4 → ⊥) → false ≡ is_object kind l
 unfolding is_object
 no_kind kind l a b c d e = rw (ne_eqb kind 0 a, ne_eqb kind 1 b, ne_eqb kind 2 c, ne_eqb kind 3 d, ne_eqb kind 4 e)
-
--- all numbers of a block, written one after another
-pub all_stored : (l vs : List ℕ) → length l ≡ length vs → sets l 0 vs ≡ vs
-all_stored l vs h =
-    let e : 0 + length vs ≡ length l = omega arith in
-    sets-eq vs l 0 (omega arith) ∙ rw (e, drop-length l, append-nil vs)
 
 -- a flag is written as 0 or 1, and read back
 pub flag_back : (f : Bool) → flag_of (flag_number f) ≡ f

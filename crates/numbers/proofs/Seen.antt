@@ -1,4 +1,5 @@
 -- What is read from the numbers of a record: its size, and slot by slot the handle and the object. Assumes nothing.
+use Rattle.std.specs.Prelude.{Some}
 use mathlib.Core.Bool.{true}
 use mathlib.Core.List.{List}
 use mathlib.Core.Path.{◌≡◌, refl, sym, ◌∙◌, ap, subst⁻¹}
@@ -15,7 +16,6 @@ use Rattle.gdi.specs.declared.Pen.{Pen as PenRecord}
 use Rattle.gdi.specs.declared.Font.{Font as FontRecord}
 use Rattle.gdi.specs.declared.GdiObject.{GdiObject}
 use Rattle.gdi.specs.declared.GdiObject.TheVariants.{Dc as DcOf, Bitmap, Brush, Pen, Font}
-use Rattle.gdi.specs.declared.Found.TheVariants.{At}
 use Rattle.gdi.specs.Lookup.{handle_at, object_at, find_of}
 use Rattle.gdi.proofs.Scan.{found_count}
 use Rattle.numbers.specs.Layout.{dc_size, object_size, slot_size, record_size, panel_len_place, store_len_place, width_place, height_place, count_place, screen_place, slot_place, handle_place, kind_place, object_place, bitmap_height_in, bitmap_dirty_in, color_in, pen_width_in, font_height_in}
@@ -73,7 +73,7 @@ module _ (l : List ℕ) where
   count_seen = refl
 
   -- a handle is found in a slot of an object
-  pub found_in : (h : ℕ) {i : ℕ} → find_of (view l) h ≡ At i → i < at l count_place
+  pub found_in : (h : ℕ) {i : ℕ} → find_of (view l) h ≡ Some i → i < at l count_place
   found_in h e = rw count_seen at (found_count (view l) h e)
 
   pub screen_seen : (view l).screen ≡ dc_fields (part l screen_place dc_size)

@@ -1,12 +1,10 @@
 -- A DC and an object as blocks of numbers of 32 bits.
-use Rattle.std.specs.Prelude.{Bool, true, cond, ◌&&◌, ◌||◌, List, ◌≡◌, ℕ, suc, ◌+◌, ◌-◌, ℤ, pos, negsuc, eqb, leb, get_or}
+use Rattle.std.specs.Prelude.{Bool, true, cond, ◌&&◌, ◌||◌, List, ◌≡◌, ℕ, suc, ◌+◌, ◌-◌, ℤ, pos, negsuc, eqb, leb, get_or, Option, None, Some}
 use Rattle.words.specs.Parts.{part}
 use Rattle.arithmetic.specs.Test.{all_below}
 use Rattle.bigendian.specs.BigEndian.{signed32}
 use Rattle.gdi.specs.declared.DcSurface.{DcSurface}
 use Rattle.gdi.specs.declared.DcSurface.TheVariants.{Screen, Memory}
-use Rattle.gdi.specs.declared.SelectedBitmap.{SelectedBitmap}
-use Rattle.gdi.specs.declared.SelectedBitmap.TheVariants.{Unset, Chosen}
 use Rattle.gdi.specs.declared.Dc.{Dc}
 use Rattle.gdi.specs.declared.Bitmap.{Bitmap as BitmapRecord}
 use Rattle.gdi.specs.declared.GdiObject.{GdiObject}
@@ -33,17 +31,17 @@ abbrev pub surface_of : ℕ → DcSurface
 surface_of n = cond (flag_of n) Memory Screen
 
 -- the selected bitmap, from the number that says whether there is one and the number that is its handle
-abbrev pub bitmap_of : (present h : ℕ) → SelectedBitmap
-bitmap_of present h = cond (flag_of present) (Chosen h) Unset
+abbrev pub bitmap_of : (present h : ℕ) → Option ℕ
+bitmap_of present h = cond (flag_of present) (Some h) None
 
 -- and the other way round: a bitmap that is absent has the number 0
-abbrev pub present_number : SelectedBitmap → ℕ
-present_number Unset = 0
-present_number (Chosen h) = 1
+abbrev pub present_number : Option ℕ → ℕ
+present_number None = 0
+present_number (Some h) = 1
 
-abbrev pub bitmap_number : SelectedBitmap → ℕ
-bitmap_number Unset = 0
-bitmap_number (Chosen h) = h
+abbrev pub bitmap_number : Option ℕ → ℕ
+bitmap_number None = 0
+bitmap_number (Some h) = h
 
 -- the two's complement of an integer of 32 bits
 abbrev pub complement32 : ℤ → ℕ

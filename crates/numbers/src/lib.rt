@@ -7,7 +7,7 @@ ghost use Rattle.numbers.specs.Layout.{dc_size, object_size, slot_size};
 ghost use Rattle.numbers.specs.Block.{flag_number, surface_of, bitmap_of, dc_fields, object_of, slot_of};
 
 use color::Colorref;
-use gdi::{Bitmap, Brush, Dc, DcSurface, Font, GdiObject, Pen, SelectedBitmap, Slot};
+use gdi::{Bitmap, Brush, Dc, DcSurface, Font, GdiObject, Pen, Slot};
 
 // The layout, as in specs/Layout.antt: how many numbers a DC, an object, a slot and a record have.
 pub const DC: usize = 14;
@@ -107,7 +107,7 @@ pub const FONT_SIZE: usize = 1;
 pub fn flag_number(f: bool) -> u32
     ensures { result ≡ flag_number f }
 {
-    if f { 1 } else { 0 }
+    u32::from(f)
 }
 
 fn surface_of(n: u32) -> DcSurface
@@ -120,14 +120,10 @@ fn surface_of(n: u32) -> DcSurface
     }
 }
 
-fn bitmap_of(present: u32, handle: u32) -> SelectedBitmap
+fn bitmap_of(present: u32, handle: u32) -> Option<u32>
     ensures { result ≡ bitmap_of present handle }
 {
-    if present == 1 {
-        SelectedBitmap::Chosen(handle)
-    } else {
-        SelectedBitmap::Unset
-    }
+    if present == 1 { Some(handle) } else { None }
 }
 
 // The integer whose two's complement is n.
@@ -144,13 +140,9 @@ pub fn dc_of(numbers: &[u32]) -> Dc
     requires { dc_size ≤ length numbers.now }
     ensures { result ≡ dc_fields numbers.now }
 {
-    let surface = surface_of(numbers[SURFACE]);
-    let bitmap = bitmap_of(numbers[BITMAP_PRESENT], numbers[BITMAP]);
-    let x = signed(numbers[POS_X]);
-    let y = signed(numbers[POS_Y]);
     Dc {
-        surface: surface,
-        selected_bitmap: bitmap,
+        surface: surface_of(numbers[SURFACE]),
+        selected_bitmap: bitmap_of(numbers[BITMAP_PRESENT], numbers[BITMAP]),
         selected_brush: numbers[BRUSH],
         selected_pen: numbers[PEN],
         selected_font: numbers[FONT],
@@ -160,8 +152,8 @@ pub fn dc_of(numbers: &[u32]) -> Dc
         text_align: numbers[TEXT_ALIGN],
         bk_color: Colorref(numbers[BK_COLOR]),
         bk_transparent: numbers[BK_TRANSPARENT] == 1,
-        pos_x: x,
-        pos_y: y,
+        pos_x: signed(numbers[POS_X]),
+        pos_y: signed(numbers[POS_Y]),
     }
 }
 
@@ -171,10 +163,7 @@ pub fn object_of(kind: u32, numbers: &[u32]) -> GdiObject
     ensures { result ≡ object_of kind numbers.now }
 {
     match kind {
-        0 => {
-            let d = dc_of(numbers);
-            GdiObject::Dc(d)
-        }
+        0 => GdiObject::Dc(dc_of(numbers)),
         1 => GdiObject::Bitmap(Bitmap {
             width: numbers[WIDTH_IN],
             height: numbers[HEIGHT_IN],
@@ -197,9 +186,8 @@ pub fn slot_of(numbers: &[u32]) -> Slot
     requires { slot_size ≤ length numbers.now }
     ensures { result ≡ slot_of numbers.now }
 {
-    let o = object_of(numbers[KIND], &numbers[OBJECT..SLOT]);
     Slot {
         handle: numbers[HANDLE],
-        object: o,
+        object: object_of(numbers[KIND], &numbers[OBJECT..SLOT]),
     }
 }

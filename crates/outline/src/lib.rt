@@ -4,13 +4,14 @@
 ghost use Rattle.std.specs.Prelude.{◌≡◌, ◌*◌, ◌≤◌, ◌<◌, length};
 ghost use Rattle.words.specs.Words.{painted};
 ghost use Rattle.surface.specs.Region.{words_of};
+ghost use Rattle.surface.specs.Refusal.{drawn};
 ghost use Rattle.surface.proofs.Rows.{rect};
-ghost use Rattle.outline.specs.Outline.{outline_marks, StrokeRect};
+ghost use Rattle.outline.specs.Outline.{StrokeRect};
 ghost use Rattle.outline.specs.Inner.{edges_of, sides, EdgesFit};
 
 use clip::Rect;
 use color::Rgb565;
-use surface::Drawn;
+use refusals::Refusal;
 
 // The first and the last coordinate of an interval, as far as they lie on a side: from .. second, and last .. to.
 #[derive(Clone, Copy)]
@@ -31,46 +32,30 @@ pub fn stroke_rect(
     w: i32,
     h: i32,
     color: Rgb565,
-) -> Drawn
-    ensures { StrokeRect x y w h color.0 width height pixels.old result pixels.new }
+) -> Result<bool, Refusal>
+    ensures { StrokeRect x y w h color.0 width height pixels.old (drawn result) pixels.new }
 {
-    let number = surface::refusal(width, height, pixels.len());
-    if number == 0 {
-        let marked = is_extent(w, h);
-        if marked {
-            let columns = edges_of(x, w, width);
-            let rows = edges_of(y, h, height);
-            stroke_edges(pixels, width, columns, rows, color.0);
-        }
-        return Drawn { refusal: 0, marked };
+    surface::check(width, height, pixels.len())?;
+    if w <= 0 || h <= 0 {
+        return Ok(false);
     }
-    Drawn {
-        refusal: number,
-        marked: false,
-    }
-}
-
-// Returns whether both extents are positive.
-fn is_extent(w: i32, h: i32) -> bool
-    ensures { result ≡ outline_marks w h }
-{
-    if w <= 0 {
-        return false;
-    }
-    0 < h
+    let columns = edges_of(x, w, width);
+    let rows = edges_of(y, h, height);
+    stroke_edges(pixels, width, columns, rows, color.0);
+    Ok(true)
 }
 
 // Returns the edges of x .. x + w on a side. The sums are exact.
 fn edges_of(x: i32, w: i32, side: u32) -> Edges
     ensures { result ≡ edges_of x w side }
 {
-    let a = x as i64;
-    let b = w as i64;
+    let from = i64::from(x);
+    let to = from + i64::from(w);
     Edges {
-        from: clip::clamp(a, side),
-        second: clip::clamp(a + 1, side),
-        last: clip::clamp(a + b - 1, side),
-        to: clip::clamp(a + b, side),
+        from: clip::clamp(from, side),
+        second: clip::clamp(from + 1, side),
+        last: clip::clamp(to - 1, side),
+        to: clip::clamp(to, side),
     }
 }
 
@@ -86,6 +71,7 @@ fn stroke_edges(pixels: &mut [u8], width: u32, x: Edges, y: Edges, color: u16)
 }
 
 // Fills columns x0 .. x1 of rows y0 .. y1 with one colour.
+#[tactic(auto, using(raster::proofs::Plain::pattern_ropped))]
 fn stroke_side(pixels: &mut [u8], width: u32, x0: u32, x1: u32, y0: u32, y1: u32, color: u16)
     requires { (0 < width) × ((x1 ≤ width) × (2 * (y1 * width) ≤ length pixels.old)) }
     ensures { pixels.new ≡ painted (words_of width (rect x0 x1 y0 y1)) (λ _. color) pixels.old }

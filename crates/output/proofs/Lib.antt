@@ -1,4 +1,3 @@
 pub mod Counting
 pub mod Powers
-pub mod Text
 pub mod Signed

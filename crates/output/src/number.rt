@@ -1,5 +1,5 @@
-// A u64 as text, in ASCII.
-ghost use Rattle.std.specs.Prelude.{◌≡◌, ◌<◌, ◌≤◌, min, max, length, take, drop};
+// A u64 as text, in ASCII. The digits are made by hand: `write!` may fail by its contract, and `decimal` and `hex` may not.
+ghost use Rattle.std.specs.Prelude.{◌≡◌, ◌^◌, ◌<◌, ◌≤◌, min, max, length, take, drop};
 ghost use Rattle.harness.specs.Counts.{IsPrefixLen};
 ghost use Rattle.output.specs.Digits.{last_digits, IsDigitCount, hex_digit_ascii};
 
@@ -10,9 +10,7 @@ pub fn decimal(n: u64, out: &mut [u8; 20]) -> usize
     ensures digits { take result out.new ≡ last_digits 10 result n }
     ensures rest { drop result out.new ≡ drop result out.old }
 {
-    let k = digit_count(n, 10, 1);
-    write_digits(n, 10, k, out);
-    k
+    in_base(n, 10, 1, out)
 }
 
 // Puts n's hexadecimal digits, in lower case, at the start of out, with zeros in front up to width
@@ -23,8 +21,21 @@ pub fn hex(n: u64, width: usize, out: &mut [u8; 16]) -> usize
     ensures digits { take result out.new ≡ last_digits 16 result n }
     ensures rest { drop result out.new ≡ drop result out.old }
 {
-    let k = digit_count(n, 16, clamp_width(width));
-    write_digits(n, 16, k, out);
+    in_base(n, 16, width.max(1).min(16), out)
+}
+
+// Puts n's digits in base at the start of out, with zeros in front up to width digits, and returns how many there are.
+fn in_base(n: u64, base: u64, width: usize, out: &mut [u8]) -> usize
+    requires base { (1 < base) × (base ≤ 16) }
+    requires width { (0 < width) × (width ≤ length out.old) }
+    requires room { n < base ^ length out.old }
+    ensures in_bounds { IsPrefixLen result out.new }
+    ensures len { IsDigitCount base width n result }
+    ensures digits { take result out.new ≡ last_digits base result n }
+    ensures rest { drop result out.new ≡ drop result out.old }
+{
+    let k = digit_count(n, base, width);
+    write_digits(n, base, k, out);
     k
 }
 
@@ -34,26 +45,8 @@ fn digit_count(n: u64, base: u64, width: usize) -> usize
     requires width_nonzero { 0 < width }
     ensures { IsDigitCount base width n result }
 {
-    let mut k = 1;
-    let mut rest = n / base;
-    while rest > 0 {
-        rest /= base;
-        k += 1;
-    }
-    if k < width { width } else { k }
-}
-
-// The width brought into `1..=16`.
-fn clamp_width(width: usize) -> usize
-    ensures { result ≡ min (max width 1) 16 }
-{
-    if width < 1 {
-        1
-    } else if width > 16 {
-        16
-    } else {
-        width
-    }
+    let digits = n.max(1).ilog(base) as usize + 1;
+    digits.max(width)
 }
 
 // Puts the last k digits of n in base at the start of out.
@@ -64,10 +57,8 @@ fn write_digits(n: u64, base: u64, k: usize, out: &mut [u8])
     ensures digits { take k out.new ≡ last_digits base k n }
     ensures rest { drop k out.new ≡ drop k out.old }
 {
-    let mut i = k;
     let mut rest = n;
-    while i > 0 {
-        i -= 1;
+    for i in (0..k).rev() {
         out[i] = digit_to_ascii(rest % base);
         rest /= base;
     }

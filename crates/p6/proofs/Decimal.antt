@@ -1,17 +1,19 @@
 -- Laws of a number's decimal digits: the last one and those before it, and how many there are. Assumes nothing.
 use mathlib.Core.Bool.{Bool, true, false, cond}
 use mathlib.Core.List.{List, [], ◌∷◌, ◌++◌, append_assoc}
-use mathlib.Core.Path.{◌≡◌, refl, ap, ◌∙◌}
+use mathlib.Core.Path.{◌≡◌, refl, sym, ap, ◌∙◌}
 use Prim.Native.Nat.{ℕ, zero, suc, ◌+◌, ◌/◌, ◌%◌, ◌^◌, ◌≤◌, ◌<◌}
 use native.Mathlib.Nat.{pow-suc}
 use native.Mathlib.Decide.{dec_lt}
 use native.Mathlib.Omega.{arith}
 use lib.Dec.{ltb}
-use lib.ListN.{length, set, length-append}
+use lib.ListN.{length, length-append}
 use borrow.Author.Tests.{ltb-false, lt-ltb, le-ltb}
+use Rattle.std.specs.Fmt as text
+use Rattle.std.proofs.lemmas.Fmt.{AppendsLastDigit, decimal_from_appends, length-decimal-le_succ}
 use Rattle.p6.specs.P6.{digits, decimal, header}
 use Rattle.p6.specs.Inner.{put}
-use Rattle.p6.proofs.Put.{stored, stored_behind, put_behind}
+use Rattle.p6.proofs.Put.{put_behind}
 
 -- any bound from n on gives the same digits
 digits_same : (k j n : ℕ) → n ≤ k → n ≤ j → digits k n ≡ digits j n
@@ -46,18 +48,6 @@ length_one n h = ap length (decimal_one n h)
 pub length_more : (n : ℕ) → 10 ≤ n → length (decimal n) ≡ length (decimal (n / 10)) + 1
 length_more n h = ap length (decimal_more n h) ∙ length-append (decimal (n / 10)) ((48 + n % 10) ∷ [])
 
-digits_few : (k n : ℕ) → length (digits k n) ≤ k + 1
-unfolding digits
-digits_few zero n = omega arith
-digits_few (suc k) n = by (digits_few k (n / 10)) (ltb n 10)
-  where
-    by : length (digits k (n / 10)) ≤ k + 1 → (b : Bool) → length (cond b [] (digits k (n / 10)) ++ ((48 + n % 10) ∷ [])) ≤ suc k + 1
-    by h true = omega arith
-    by h false = omega (arith, length-append (digits k (n / 10)) ((48 + n % 10) ∷ []))
-
-pub decimal_few : (n : ℕ) → length (decimal n) ≤ n + 1
-decimal_few n = digits_few n n
-
 -- at most k below 10 to the power k
 pub few_digits : (k n : ℕ) → n < 10 ^ suc k → length (decimal n) ≤ suc k
 few_digits zero n h = omega (arith, length_one n h)
@@ -67,12 +57,17 @@ few_digits (suc k) n h = by (few_digits k (n / 10) (omega (arith, pow-suc 10 (su
     by f (yes a) = omega (arith, length_one n a)
     by f (no a) = omega (arith, length_more n (omega arith))
 
--- a digit that is stored, alone or after the digits before it
-pub put_digit : (m : List ℕ) (at n : ℕ) → n < 10 → at + length (decimal n) ≤ length m → set m at (48 + n % 10) ≡ put m at (decimal n)
-put_digit m at n h fits = rw (decimal_one n h) (stored ((48 + n % 10) ∷ []) m at (omega (arith, length_one n h)))
+-- what the library writes of a number
+appends : AppendsLastDigit digits
+unfolding digits
+appends = record {
+  one = λ k n h. let last : 48 + n % 10 ≡ 48 + n = omega arith in rw (lt-ltb n 10 h, last);
+  more = λ k n h. rw (le-ltb n 10 h);
+}
 
-pub put_last : (m : List ℕ) (at n : ℕ) {l : List ℕ} {end : ℕ} → 10 ≤ n → at + length (decimal n) ≤ length m → end ≡ at + length (decimal (n / 10)) → l ≡ put m at (decimal (n / 10)) → set l end (48 + n % 10) ≡ put m at (decimal n)
-put_last m at n h fits e f = rw (decimal_more n h, e, f) (stored_behind (decimal (n / 10)) ((48 + n % 10) ∷ []) m at (omega (arith, length_more n h)))
+pub decimal_written : (n : ℕ) → n < 2 ^ 32 → text.decimal n ≡ decimal n
+decimal_written n h =
+    sym (decimal_from_appends digits appends (n + 1) n (omega arith) (length-decimal-le_succ n (omega arith))) ∙ digits_same (n + 1) n n (omega arith) (omega arith)
 
 -- ---- the header
 

@@ -5,17 +5,14 @@ use Prim.Native.Nat.{ℕ, zero, suc, ◌+◌, ◌*◌, ◌≤◌}
 use native.Mathlib.Nat.{add-zero, mul-zero, mul-suc}
 use native.Mathlib.Numerals.{add-one}
 use native.Mathlib.Omega.{arith}
-use lib.ListN.{length, take, drop, take-append-drop, length-take, length-drop, length-append, drop_of_length-le}
-use lib.Seq.{paste, sets, take-length, sets-eq, take_at, drop_at, drop-drop, length-take-le}
+use lib.ListN.{length, take, drop, take-append-drop, length-append, drop_of_length-le}
+use lib.Seq.{take_at, drop_at, drop-drop, length-take-le}
 use Rattle.p6.specs.Joined.{joined}
 use Rattle.p6.specs.Inner.{put}
 
 -- a piece as long as the memory
 pub put_all : (m xs : List ℕ) → length m ≡ length xs → put m 0 xs ≡ xs
 put_all m xs e = rw (drop_of_length-le m {i = 0 + length xs} (omega arith)) (append-nil xs)
-
-pub length_put : (m : List ℕ) (p : ℕ) (xs : List ℕ) → p + length xs ≤ length m → length (put m p xs) ≡ length m
-length_put m p xs h = simp (length-append, length-take, length-drop) (omega arith)
 
 -- a piece after another
 pub put_put : (m : List ℕ) (p : ℕ) (xs ys : List ℕ) → p + length xs + length ys ≤ length m → put (put m p xs) (p + length xs) ys ≡ put m p (xs ++ ys)
@@ -48,18 +45,6 @@ pub put_behind : (m xs ys : List ℕ) {l r : List ℕ} (at : ℕ) → length xs 
 put_behind m xs ys at h e f i =
     let j : at ≡ 0 + length xs = omega arith in
     f ∙ rw (e, j) (put_put m 0 xs ys (omega arith))
-
--- a copy of the whole of xs
-pub put_copy : (m : List ℕ) (p : ℕ) (xs : List ℕ) → paste m p xs (length xs) ≡ put m p xs
-put_copy m p xs = rw (take-length xs) (append_assoc (take p m) xs (drop (p + length xs) m))
-
--- bytes stored one after another
-pub stored : (xs m : List ℕ) (p : ℕ) → p + length xs ≤ length m → sets m p xs ≡ put m p xs
-stored xs m p h = sets-eq xs m p h ∙ append_assoc (take p m) xs (drop (p + length xs) m)
-
--- bytes stored after a piece
-pub stored_behind : (xs ys m : List ℕ) (p : ℕ) → p + length xs + length ys ≤ length m → sets (put m p xs) (p + length xs) ys ≡ put m p (xs ++ ys)
-stored_behind xs ys m p h = stored ys (put m p xs) (p + length xs) (omega (arith, length_put m p xs (omega arith))) ∙ put_put m p xs ys h
 
 pub length_joined : (f : ℕ → List ℕ) (w : ℕ) → ((i : ℕ) → length (f i) ≡ w) → (k : ℕ) → length (joined f k) ≡ w * k
 unfolding joined

@@ -5,7 +5,10 @@ ghost use Rattle.std.specs.Prelude.{◌≡◌, ◌+◌, ◌≤◌, length};
 ghost use Rattle.p6.specs.P6.{decimal, header, ppm_length};
 ghost use Rattle.p6.specs.Inner.{put};
 
+use itoa::Buffer;
+
 // The length of the picture of a surface.
+#[tactic(auto, using(crate::proofs::Decimal::length_header))]
 pub fn ppm_len(width: u32, height: u32) -> usize
     requires { (width ≤ 4096) × (height ≤ 4096) }
     ensures { result ≡ ppm_length width height }
@@ -13,7 +16,8 @@ pub fn ppm_len(width: u32, height: u32) -> usize
     9 + decimal_len(width) + decimal_len(height) + 3 * ((width as usize) * (height as usize))
 }
 
-// Writes the header at the start of the output; returns its length.
+// Writes the header at the start of the output; returns its length. Piece by piece: what `write!` ensures says nothing of a slice's bytes.
+#[tactic(auto, using(crate::proofs::Decimal::length_header))]
 pub fn put_header(out: &mut [u8], width: u32, height: u32) -> usize
     requires { length (header width height) ≤ length out.old }
     ensures value { result ≡ length (header width height) }
@@ -27,28 +31,22 @@ pub fn put_header(out: &mut [u8], width: u32, height: u32) -> usize
 }
 
 // Writes n in decimal from `at` on; returns where it ends.
+#[tactic(auto, using(crate::proofs::Decimal::decimal_written))]
 fn put_decimal(out: &mut [u8], at: usize, n: u32) -> usize
     requires { at + length (decimal n) ≤ length out.old }
     ensures value { result ≡ at + length (decimal n) }
     ensures bytes { out.new ≡ put out.old at (decimal n) }
 {
-    if n < 10 {
-        out[at] = 48 + (n % 10) as u8;
-        return at + 1;
-    }
-    let last = put_decimal(out, at, n / 10);
-    out[last] = 48 + (n % 10) as u8;
-    last + 1
+    put_bytes(out, at, Buffer::new().format(n).as_bytes())
 }
 
 // The number of digits of n.
+#[tactic(auto, using(crate::proofs::Decimal::decimal_written))]
 fn decimal_len(n: u32) -> usize
-    ensures { result ≡ length (decimal n) }
+    ensures value { result ≡ length (decimal n) }
+    ensures few { result ≤ 10 }
 {
-    if n < 10 {
-        return 1;
-    }
-    decimal_len(n / 10) + 1
+    Buffer::new().format(n).len()
 }
 
 // Writes bytes from `at` on; returns where they end.
@@ -57,8 +55,7 @@ pub fn put_bytes(out: &mut [u8], at: usize, bytes: &[u8]) -> usize
     ensures value { result ≡ at + length bytes.now }
     ensures bytes { out.new ≡ put out.old at bytes.now }
 {
-    for k in 0..bytes.len() {
-        out[at + k] = bytes[k];
-    }
-    at + bytes.len()
+    let end = at + bytes.len();
+    out[at..end].copy_from_slice(bytes);
+    end
 }

@@ -2,3 +2,4 @@ pub mod Puts
 pub mod Lengths
 pub mod Values
 pub mod Table
+pub mod Chunks

@@ -36,25 +36,25 @@ module _ (l out : List ℕ) (r : is_record l ≡ true) (fits : length (saved_tab
   pub head_room : Room out 0 (head_bits (view l))
   head_room = record { inside = omega (arith, length_head (view l), inside 0 (omega arith)); counted = omega (arith, length_head (view l)) }
 
-  -- objects before i are put behind the head, in an output of this length; the n numbers of object i are lent
-  module _ {i p : ℕ} {m m' : List ℕ} (n : ℕ) (long : n ≡ slot_size) (lt : i < at l count_place) (same : length m ≡ length out) (same' : length m' ≡ length out) (put : Put m 425 (slots_bits (view l) i) p m') where
-    lent : slot_at (view l) i ≡ slot_of (part l (slot_place i) n)
-    lent = rw long (slot_read l r i lt)
+  -- objects before i are put behind the head, in an output of this length; the numbers of object i are lent
+  module _ {i p : ℕ} {m m' slot : List ℕ} (lt : i < at l count_place) (lent : slot ≡ part l (slot_place i) slot_size) (long : length m' ≡ length out) (put : Put m 425 (slots_bits (view l) i) p m') where
+    object : slot_at (view l) i ≡ slot_of slot
+    object = slot_read l r i lt ∙ ap slot_of (sym lent)
 
-    pub slot_good : is_slot (part l (slot_place i) n) ≡ true
-    slot_good = rw long ((parts l r).slots i lt)
+    pub slot_good : is_slot slot ≡ true
+    slot_good = ap is_slot lent ∙ (parts l r).slots i lt
 
-    pub slot_room : Room m' p (slot_bits (slot_of (part l (slot_place i) n)))
+    pub slot_room : Room m' p (slot_bits (slot_of slot))
     slot_room =
-        let e : length (slot_bits (slot_of (part l (slot_place i) n))) ≡ length (slot_bits (slot_at (view l) i)) = ap (λ (s : Slot). length (slot_bits s)) (sym lent) in
+        let e : length (slot_bits (slot_of slot)) ≡ length (slot_bits (slot_at (view l) i)) = ap (λ (s : Slot). length (slot_bits s)) (sym object) in
         record {
           inside = omega (arith, put.behind, length_next (view l) i, inside (suc i) lt);
           counted = omega (arith, put.behind, length_next (view l) i, few (suc i) lt);
         }
 
-    pub slot_next : {q : ℕ} {m'' : List ℕ} → Put m' p (slot_bits (slot_of (part l (slot_place i) n))) q m'' → Put m 425 (slots_bits (view l) (i + 1)) q m''
+    pub slot_next : length m ≡ length out → {q : ℕ} {m'' : List ℕ} → Put m' p (slot_bits (slot_of slot)) q m'' → Put m 425 (slots_bits (view l) (i + 1)) q m''
     unfolding slots_bits
-    slot_next x = rw (add-one i, lent) (put_both put x (omega (arith, inside i (omega arith))))
+    slot_next e x = rw (add-one i, object) (put_both put x (omega (arith, inside i (omega arith))))
 
   -- all are put, and the last byte is filled
   pub table_put : {m m' new : List ℕ} {i p : ℕ} → i ≡ at l count_place → length m ≡ length out → ((k : ℕ) → get_or out k 0 < 256) → ((k : ℕ) → get_or new k 0 < 256)

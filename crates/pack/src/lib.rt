@@ -53,8 +53,7 @@ fn put_slot(numbers: &[u32], out: &mut [u8], at: usize) -> usize
     ensures { Put out.old at (slot_bits (slot_of numbers.now)) result out.new }
 {
     let kind = numbers[KIND];
-    let named = [kind, numbers[HANDLE]];
-    put_fields(out, at, &SLOT_WIDTHS, &named);
+    put_fields(out, at, &SLOT_WIDTHS, &[kind, numbers[HANDLE]]);
     put_object(kind, &numbers[OBJECT..SLOT], out, at + SLOT_BITS)
 }
 
@@ -64,9 +63,13 @@ fn put_head(numbers: &[u32], out: &mut [u8])
     requires room { Room out.old 0 (head_bits (view numbers.now)) }
     ensures { Put out.old 0 (head_bits (view numbers.now)) 425 out.new }
 {
-    let width = numbers[WIDTH];
-    let height = numbers[HEIGHT];
-    let head = [1, width, height, numbers[NEXT_HANDLE], numbers[COUNT]];
+    let head = [
+        1,
+        numbers[WIDTH],
+        numbers[HEIGHT],
+        numbers[NEXT_HANDLE],
+        numbers[COUNT],
+    ];
     put_fields(out, 0, &HEAD_WIDTHS, &head);
     put_fields(
         out,
@@ -82,14 +85,11 @@ pub fn table_len(numbers: &[u32]) -> usize
     ensures value { result ≡ length (saved_table (view numbers.now)) }
     ensures upper_bound { result ≤ 12502 }
 {
-    let n = numbers[COUNT] as usize;
     let mut bits = HEAD_BITS + DC_BITS;
-    let mut i = 0;
-    while i < n {
-        bits += SLOT_BITS + saved_table::object_bits(numbers[SLOTS + SLOT * i + KIND]);
-        i += 1;
+    for slot in numbers[SLOTS..SLOTS + SLOT * numbers[COUNT] as usize].chunks_exact(SLOT) {
+        bits += SLOT_BITS + saved_table::object_bits(slot[KIND]);
     }
-    (bits + 7) / 8
+    bits.div_ceil(8)
 }
 
 // Writes the table of a record into the front of the output, and keeps the output past it.
@@ -99,13 +99,9 @@ pub fn put_table(numbers: &[u32], out: &mut [u8])
     ensures { out.new ≡ saved_table (view numbers.now) ++ drop (length (saved_table (view numbers.now))) out.old }
 {
     put_head(numbers, out);
-    let n = numbers[COUNT] as usize;
     let mut at = HEAD_BITS + DC_BITS;
-    let mut i = 0;
-    while i < n {
-        let place = SLOTS + SLOT * i;
-        at = put_slot(&numbers[place..place + SLOT], out, at);
-        i += 1;
+    for slot in numbers[SLOTS..SLOTS + SLOT * numbers[COUNT] as usize].chunks_exact(SLOT) {
+        at = put_slot(slot, out, at);
     }
     fill_byte(out, at);
 }

@@ -1,4 +1,5 @@
 -- The removal of an object: every other pixel keeps its colour, wherever it lies afterwards. Assumes nothing.
+use Rattle.std.specs.Prelude.{Some}
 use mathlib.Core.Bool.{Bool, true, false, cond}
 use mathlib.Core.Path.{◌≡◌, refl, sym, ◌∙◌, ap, subst}
 use Prim.Native.Nat.{ℕ, ◌+◌, ◌≤◌}
@@ -7,7 +8,6 @@ use lib.Dec.{eqb}
 use lib.ListN.{length, take, drop}
 use borrow.Author.Tests.{eqb-true, eqb-false, ne_eqb}
 use Rattle.gdi.specs.declared.GdiState.{GdiState}
-use Rattle.gdi.specs.declared.Found.TheVariants.{At as FoundAt}
 use Rattle.gdi.specs.Record.{size, bytes_of}
 use Rattle.gdi.specs.Stock.{is_stock, stock_bitmap}
 use Rattle.gdi.specs.Lookup.{object_at, find_of}
@@ -56,7 +56,7 @@ module _ {a n e : ℕ} where
       → colour_at (closed ms a n e) now x y ≡ colour_at ms then x y
   shift_colour s ms u v x y = rw (shift_pixels s ms u v, shift_width s)
 
-module _ (b : GdiState) (h i : ℕ) (found : find_of b h ≡ FoundAt i) where
+module _ (b : GdiState) (h i : ℕ) (found : find_of b h ≡ Some i) where
   -- its bytes are among those in use, and these lie in the store
   gap : Sound b → start_of b i + bytes_of (object_at b i) ≤ used b
   gap s = room s i (found_count b h found)

@@ -3,7 +3,6 @@ use mathlib.Core.Bool.{Bool, true, false, ◌&&◌}
 use mathlib.Core.List.{List}
 use mathlib.Core.Path.{◌≡◌, refl, sym, ◌∙◌, ap}
 use Prim.Native.Nat.{ℕ, ◌+◌, ◌*◌, ◌-◌, ◌≤◌, ◌<◌}
-use native.Mathlib.Nat.{mul-le-mul}
 use native.Mathlib.Omega.{arith}
 use lib.ListN.{length}
 use borrow.Author.Tests.{le-ltb, lt-ltb}
@@ -21,7 +20,7 @@ use Rattle.gdi.specs.Updates.{with_sides}
 use Rattle.numbers.specs.View.{view, Updated}
 use Rattle.sound.specs.Sound.{is_sound}
 use Rattle.sound.proofs.Sound.{parts}
-use Rattle.sound.proofs.Bytes.{area as sides-area}
+use Rattle.sound.proofs.Bytes.{area}
 use Rattle.memory.specs.Gap.{blanked}
 use Rattle.place.specs.declared.SurfaceId.TheVariants.{Panel}
 use Rattle.dirty.specs.Dirty.{dirtied, dirtied_if}
@@ -34,14 +33,10 @@ use Rattle.plan.specs.Panel.{panel_fill, resized, no_effect, resize}
 use Rattle.plan.specs.Followed.{Followed}
 use Rattle.plan.proofs.Followed.{acceptance}
 
--- the number of pixels of sides in their limits
-pub area : {w h : ℕ} → w ≤ 4096 → h ≤ 4096 → w * h ≤ 16777216
-area wide high = mul-le-mul wide high
-
 -- the panel of a sound record
 module _ (b : GdiState) (sound : is_sound b ≡ true) where
   pub panel_area : b.width * b.height ≤ 16777216
-  panel_area = let s = parts b sound in sides-area b.width b.height s.width s.height
+  panel_area = let s = parts b sound in area b.width b.height s.width s.height
 
   pub panel_fits : {n : ℕ} → n ≡ b.panel_len → 2 * (0 + b.width * b.height) ≤ n
   panel_fits e = omega (arith, e, (parts b sound).panel)

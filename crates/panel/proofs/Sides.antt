@@ -1,10 +1,9 @@
 -- The panel's sides are written into the numbers, and then a dirty mark. Assumes nothing.
-use mathlib.Core.Bool.{Bool, true, ◌&&◌, ◌||◌}
+use mathlib.Core.Bool.{true}
 use mathlib.Core.List.{List}
 use mathlib.Core.Path.{◌≡◌, refl, ◌∙◌, subst}
 use Prim.Native.Nat.{ℕ, ◌+◌, ◌*◌, ◌≤◌, ◌<◌}
 use native.Mathlib.Omega.{arith}
-use lib.Dec.{eqb}
 use lib.ListN.{length, set, length-set}
 use lib.Seq.{get_or-set_same, get_or-set_other}
 use Rattle.arithmetic.specs.Interval.{between}
@@ -22,7 +21,6 @@ use Rattle.dirty.proofs.Still.{dirtied_count}
 use Rattle.numbers.proofs.Updates.{sides_seen}
 use Rattle.numbers.proofs.Kept.{Kept, kept_all, kept_set, table_kept}
 use Rattle.dirty.proofs.Numbers.{screen, head_updated}
-use Rattle.plan.specs.Panel.{no_effect}
 use Rattle.plan.proofs.Followed.{updated_twice}
 use Rattle.panel.proofs.Cases.{panel_area, panel_fits}
 
@@ -68,8 +66,3 @@ module _ (l : List ℕ) (sound : is_sound (view l) ≡ true) where
 pub filled_seen : (l panel : List ℕ) (c : ℕ) {panel' : List ℕ} → panel' ≡ painted (between 0 (0 + at l width_place * at l height_place)) (λ _. c) panel → panel' ≡ painted (between 0 (0 + (view l).width * (view l).height)) (λ _. c) panel
 unfolding view
 filled_seen l panel c e = e
-
--- a resize without effect, from the numbers
-pub effect_seen : (l : List ℕ) (w h : ℕ) {t : Bool} → t ≡ ((eqb w 0 || eqb h 0) || (eqb w (at l width_place) && eqb h (at l height_place))) → t ≡ no_effect (view l) w h
-unfolding view
-effect_seen l w h e = e

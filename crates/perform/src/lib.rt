@@ -6,6 +6,7 @@ ghost use Rattle.plan.specs.Calls.{call as asked};
 ghost use Rattle.plan.specs.Followed.{Performed, OnBoth};
 
 use plan::{Answer, Call};
+use refusals::Refusal;
 
 // Performs a call. Numbers that are not a record are refused with 9. A refused call changes no number and no byte.
 pub fn perform(
@@ -14,13 +15,10 @@ pub fn perform(
     units: &[u16],
     panel: &mut [u8],
     store: &mut [u8],
-) -> Answer
+) -> Result<Answer, Refusal>
     ensures { OnBoth (Performed (asked call units.now)) numbers panel store (parts_of result) }
 {
-    let no = ready::common_refusal(numbers, panel.len(), store.len());
-    if no != 0 {
-        return Answer::Refused(no);
-    }
+    ready::check(numbers, panel.len(), store.len())?;
     match call {
         Call::CreateMemoryDc => create::create_memory_dc(numbers, store),
         Call::CreateCompatibleBitmap { width, height } => create::create_compatible_bitmap(
@@ -29,9 +27,9 @@ pub fn perform(
         Call::CreateSolidBrush(color) => create::create_solid_brush(numbers, store, color),
         Call::CreatePen { color, width } => create::create_pen(numbers, store, color, width),
         Call::CreateFont(height) => create::create_font(numbers, store, height),
-        Call::Delete(handle) => delete::delete(numbers, store, handle),
-        Call::Remove(handle) => delete::remove(numbers, store, handle),
-        Call::SelectInto { dc, object } => select::select_into(numbers, dc, object),
+        Call::Delete(handle) => Ok(delete::delete(numbers, store, handle)),
+        Call::Remove(handle) => Ok(delete::remove(numbers, store, handle)),
+        Call::SelectInto { dc, object } => Ok(select::select_into(numbers, dc, object)),
         Call::SetTextColor { dc, color } => settings::set_text_color(numbers, dc, color),
         Call::SetTextAlign { dc, align } => settings::set_text_align(numbers, dc, align),
         Call::SetBkColor { dc, color } => settings::set_bk_color(numbers, dc, color),
@@ -41,7 +39,7 @@ pub fn perform(
         ),
         Call::Rectangle { dc, area } => draw::rectangle(numbers, panel, store, dc, area),
         Call::Text { dc, at } => draw_text::text_out(numbers, panel, store, units, dc, at),
-        Call::PanelFill(color) => panel::fill(numbers, panel, color),
+        Call::PanelFill(color) => Ok(panel::fill(numbers, panel, color)),
         Call::Resize { width, height } => panel::resize(numbers, panel, width, height),
         Call::Blit {
             dc,

@@ -14,35 +14,30 @@ pub fn write(rt: &impl Print, pixels: &[u8], width: u32, height: u32) -> io::Res
     requires height_in_bounds { 2 * (width * height) ≤ length pixels.now }
 {
     write_header(rt, width, height)?;
-    write_rows(rt, pixels, width as usize, height as usize)
-}
-
-// Writes the header, which has 29 bytes at most.
-fn write_header(rt: &impl Print, width: u32, height: u32) -> io::Result<()> {
-    let mut bytes = [0u8; 32];
-    let n = p6::put_header(&mut bytes, width, height);
-    rt.write_all(&bytes[0..n])
-}
-
-// Writes row after row of the pixels.
-fn write_rows(rt: &impl Print, pixels: &[u8], w: usize, h: usize) -> io::Result<()>
-    requires w_bound { w ≤ 4096 }
-    requires h_in_bounds { 2 * (w * h) ≤ length pixels.now }
-{
-    for row in 0..h {
-        write_row(rt, pixels, row * w, w)?;
+    let w = width as usize;
+    if w == 0 {
+        return Ok(()); // `chunks_exact` takes no length of 0
+    }
+    for row in pixels[..2 * w * height as usize].chunks_exact(2 * w) {
+        write_row(rt, row)?;
     }
     Ok(())
 }
 
-// Writes the samples of the w words from `first` on.
-fn write_row(rt: &impl Print, pixels: &[u8], first: usize, w: usize) -> io::Result<()>
-    requires { (w ≤ 4096) × (2 * (first + w) ≤ length pixels.now) }
+// Writes the header, which has 29 bytes at most.
+#[tactic(auto, using(p6::proofs::Decimal::header_few))]
+fn write_header(rt: &impl Print, width: u32, height: u32) -> io::Result<()> {
+    let mut bytes = [0u8; 32];
+    let n = p6::put_header(&mut bytes, width, height);
+    rt.write_all(&bytes[..n])
+}
+
+// Writes the samples of a row of pixels.
+fn write_row(rt: &impl Print, row: &[u8]) -> io::Result<()>
+    requires { length row.now ≤ 8192 }
 {
     let mut bytes = [0u8; 12_288];
-    let start = 2 * first;
-    let end = 2 * (first + w);
-    samples::put_rgb_run(&pixels[start..end], w, &mut bytes, 0);
-    let n = 3 * w;
-    rt.write_all(&bytes[0..n])
+    let w = row.len() / 2;
+    samples::put_rgb_run(row, w, &mut bytes, 0);
+    rt.write_all(&bytes[..3 * w])
 }

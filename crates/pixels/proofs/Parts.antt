@@ -1,4 +1,5 @@
 -- The cases of a DC's place, and its pixels as a part of one memory. Assumes nothing.
+use Rattle.std.specs.Prelude.{Result, Err}
 use mathlib.Core.List.{List, []}
 use mathlib.Core.Path.{◌≡◌, sym, ◌∙◌, ap, subst}
 use Prim.Native.Nat.{ℕ, ◌+◌, ◌-◌, ◌*◌, ◌≤◌}
@@ -18,9 +19,10 @@ use Rattle.place.specs.declared.Place.{Place}
 use Rattle.place.specs.declared.Place.TheVariants.{Nowhere, At}
 use Rattle.place.specs.declared.Site.{Site}
 use Rattle.place.specs.declared.SurfaceId.{SurfaceId}
+use Rattle.place.specs.declared.NoTarget.{NoTarget}
 use Rattle.place.specs.declared.Target.{Target}
-use Rattle.place.specs.declared.Target.TheVariants.{NoDc, NoSurface, On}
-use Rattle.place.specs.Place.{target_of, length_of, Inside, Within}
+use Rattle.place.specs.declared.NoTarget.TheVariants.{NoDc, NoSurface}
+use Rattle.place.specs.Place.{target_of, length_of, Inside, Within, on}
 use Rattle.place.proofs.Places.{few_pixels}
 use Rattle.place.proofs.Targets.{target_placed}
 use Rattle.paint.specs.Memories.{memories, memory_of, pixels_at}
@@ -32,22 +34,20 @@ module _ (l : List ℕ) (n k dc : ℕ) {no₀ : ℕ} (e : no₀ ≡ common_refus
   unfolding place_of
   refused ne = record { same = rw (← e, ne_eqb _ _ ne); within = tt }
 
-  module _ (z : no₀ ≡ 0) {t : Target} (f : t ≡ target_of (view l) dc) where
-    on_target_lem : (u : Target) → t ≡ u → place_on u ≡ place_of l n k dc
+  module _ (z : no₀ ≡ 0) {t : Result Target NoTarget} (f : t ≡ target_of (view l) dc) where
+    on_target_lem : (u : Result Target NoTarget) → t ≡ u → place_on u ≡ place_of l n k dc
     unfolding place_of
     on_target_lem u g = rw (← e, z) (ap place_on (sym g ∙ f))
 
-    pub no_dc : t ≡ NoDc → Found l n k dc Nowhere
-    no_dc g = record { same = on_target_lem NoDc g; within = tt }
+    pub no_target : (why : NoTarget) → t ≡ Err why → Found l n k dc Nowhere
+    no_target NoDc g = record { same = on_target_lem (Err NoDc) g; within = tt }
+    no_target NoSurface g = record { same = on_target_lem (Err NoSurface) g; within = tt }
 
-    pub no_surface : t ≡ NoSurface → Found l n k dc Nowhere
-    no_surface g = record { same = on_target_lem NoSurface g; within = tt }
-
-    pub found : {s : SurfaceId} {i : Site} {d : Dc} → t ≡ On s i d → Found l n k dc i.at
+    pub found : {s : SurfaceId} {i : Site} {d : Dc} → t ≡ on s i d → Found l n k dc i.at
     found {s} {i} {d} g =
         let q = (lent l n k no₀ e z).ready in
         let w = target_placed (view l) q.sound dc f g in
-        record { same = on_target_lem (On s i d) g; within = rw (q.panel, q.store) w.within }
+        record { same = on_target_lem (on s i d) g; within = rw (q.panel, q.store) w.within }
 
 -- a place that was found is inside its memory
 module _ {l : List ℕ} {n k dc : ℕ} {at : Place} (f : Found l n k dc at) {m : Memory} {p w h : ℕ} (e : at ≡ At m p w h) where

@@ -1,19 +1,20 @@
 -- A DC's pixels: a part of the panel memory or of the store.
-use Rattle.std.specs.Prelude.{cond, List, ◌≡◌, ℕ, ◌+◌, eqb, length}
+use Rattle.std.specs.Prelude.{cond, List, ◌≡◌, ℕ, ◌+◌, eqb, length, Result, Ok, Err}
 use Rattle.numbers.specs.View.{view}
 use Rattle.ready.specs.Ready.{common_refusal_on}
 use Rattle.place.specs.declared.Memory.TheVariants.{Panel, Store}
 use Rattle.place.specs.declared.Place.{Place}
 use Rattle.place.specs.declared.Place.TheVariants.{Nowhere, At}
+use Rattle.place.specs.declared.NoTarget.{NoTarget}
 use Rattle.place.specs.declared.Target.{Target}
-use Rattle.place.specs.declared.Target.TheVariants.{NoDc, NoSurface, On}
-use Rattle.place.specs.Place.{target_of, Within}
+use Rattle.place.specs.declared.NoTarget.TheVariants.{NoDc, NoSurface}
+use Rattle.place.specs.Place.{target_of, Within, on}
 use Rattle.paint.specs.Memories.{Memories, pixels_at}
 
-abbrev pub place_on : Target → Place
-place_on NoDc = Nowhere
-place_on NoSurface = Nowhere
-place_on (On s i d) = i.at
+abbrev pub place_on : Result Target NoTarget → Place
+place_on (Err NoDc) = Nowhere
+place_on (Err NoSurface) = Nowhere
+place_on (Ok t) = t.site.at
 
 -- where a DC's pixels lie; nowhere where a drawing would be refused with 9, 8, 1 or 2
 unfoldable pub place_of : (l : List ℕ) → (panel_len store_len dc : ℕ) → Place

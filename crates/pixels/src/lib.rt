@@ -5,19 +5,18 @@ ghost use Rattle.std.specs.Prelude.{◌≡◌, length};
 ghost use Rattle.paint.specs.Memories.{memories};
 ghost use Rattle.pixels.specs.Pixels.{place_of, pixels_of, pointer_at, Found};
 
-use place::{Memory, Place, Target};
+use place::{Memory, Place};
 
 // Returns where the pixels of a DC lie; nowhere if a drawing on it would be refused.
 pub fn place_of(numbers: &[u32], panel_len: usize, store_len: usize, dc: u32) -> Place
     ensures { Found numbers.now panel_len store_len dc result }
 {
-    if ready::common_refusal(numbers, panel_len, store_len) != 0 {
+    if ready::check(numbers, panel_len, store_len).is_err() {
         return Place::Nowhere;
     }
     match place::target_of(numbers, dc) {
-        Target::NoDc => Place::Nowhere,
-        Target::NoSurface => Place::Nowhere,
-        Target::On(_, site, _) => site.at,
+        Ok(target) => target.site.at,
+        Err(_) => Place::Nowhere,
     }
 }
 

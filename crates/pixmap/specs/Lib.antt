@@ -1,1 +1,2 @@
 pub mod Pixmap
+pub mod Inner

@@ -1,11 +1,11 @@
 -- The steps of locating a bitmap among numbers, and the panel's place. Assumes nothing.
+use Rattle.std.specs.Prelude.{Some, None}
 use mathlib.Core.Bool.{true}
 use mathlib.Core.List.{List}
 use mathlib.Core.Path.{◌≡◌, refl, sym, ◌∙◌, ap, ap₂}
 use Prim.Native.Nat.{ℕ, ◌+◌, ◌-◌, ◌≤◌, ◌<◌}
 use native.Mathlib.Omega.{arith}
 use Rattle.words.specs.Parts.{part}
-use Rattle.gdi.specs.declared.Found.TheVariants.{At as InSlot, Nothing}
 use Rattle.gdi.specs.declared.GdiObject.{GdiObject}
 use Rattle.gdi.specs.Record.{bytes_of}
 use Rattle.gdi.specs.Lookup.{handle_at, scan, find_of}
@@ -56,7 +56,7 @@ module _ (l : List ℕ) (r : is_record l ≡ true) (s : is_sound (view l) ≡ tr
 
     module _ {h start : ℕ} (inv : Sought l h i start) where
       -- the object with the handle was found in slot i, at the start of its pixels
-      pub located_seen : {q : Place} → at l (slot_place i) ≡ h → q ≡ place_from (object_from l (slot_place i)) start → Located (view l) h (site q (InSlot i))
+      pub located_seen : {q : Place} → at l (slot_place i) ≡ h → q ≡ place_from (object_from l (slot_place i)) start → Located (view l) h (site q (Some i))
       located_seen f g =
           let e = handle_seen l r i lt ∙ f in
           located (view l) s h i start below e inv.begin inv.place (sym (scan-hit _ _ _ _ below e) ∙ inv.slot)
@@ -78,11 +78,11 @@ module _ (l : List ℕ) (r : is_record l ≡ true) (s : is_sound (view l) ≡ tr
             }
 
 -- nothing was found
-pub end_seen : (l : List ℕ) {h i start : ℕ} {q : Site} → at l count_place ≤ i → Sought l h i start → q ≡ site Nowhere Nothing → Located (view l) h q
+pub end_seen : (l : List ℕ) {h i start : ℕ} {q : Site} → at l count_place ≤ i → Sought l h i start → q ≡ site Nowhere None → Located (view l) h q
 end_seen l {h} {i} {start} le inv e =
     let past : (view l).count ≤ i = rw (count_seen l) le in
     rw e (record { same = ap₂ site (end (view l) h i start past ∙ inv.place) (sym (scan-end _ _ _ _ past) ∙ inv.slot); within = tt })
 
-pub panel_seen : (l : List ℕ) {u : SurfaceId} {q : Site} → is_sound (view l) ≡ true → u ≡ Panel → q ≡ site (At PanelMemory 0 (at l width_place) (at l height_place)) Nothing → SiteFound (view l) u q
+pub panel_seen : (l : List ℕ) {u : SurfaceId} {q : Site} → is_sound (view l) ≡ true → u ≡ Panel → q ≡ site (At PanelMemory 0 (at l width_place) (at l height_place)) None → SiteFound (view l) u q
 unfolding view
 panel_seen l s e f = rw f (placed_panel (view l) s e)

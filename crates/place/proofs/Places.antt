@@ -1,4 +1,5 @@
 -- The steps of locating a bitmap, and the cases of a surface's place, each inside its memory. Assumes nothing.
+use Rattle.std.specs.Prelude.{Option, Some, None}
 use mathlib.Core.Bool.{true}
 use mathlib.Core.Path.{◌≡◌, sym, ◌∙◌, ap₂, subst, subst⁻¹}
 use Prim.Native.Nat.{ℕ, suc, ◌+◌, ◌-◌, ◌*◌, ◌≤◌, ◌<◌}
@@ -10,8 +11,6 @@ use Rattle.arithmetic.proofs.Test.{both}
 use Rattle.surface.specs.Refusal.{side}
 use Rattle.surface.proofs.Accepted.{side_range}
 use Rattle.gdi.specs.declared.GdiState.{GdiState}
-use Rattle.gdi.specs.declared.Found.{Found}
-use Rattle.gdi.specs.declared.Found.TheVariants.{At as InSlot, Nothing}
 use Rattle.gdi.specs.declared.GdiObject.{GdiObject}
 use Rattle.gdi.specs.declared.GdiObject.TheVariants.{Dc as DcOf, Bitmap as BitmapOf, Brush, Pen, Font}
 use Rattle.gdi.specs.Record.{size, bytes_of}
@@ -77,12 +76,12 @@ object_within b s i p lt e =
     let q = parts b s in
     frame_within (object_at b i) _ _ p (fits_at q i lt) (omega (arith, e, q.store, room q i lt))
 
-abbrev pub site : Place → Found → Site
+abbrev pub site : Place → Option ℕ → Site
 site at slot = record { at = at; slot = slot }
 
 -- the object with the handle was found in slot i, whose pixels start at p
 pub located : (b : GdiState) → is_sound b ≡ true → (h i p : ℕ) {r : Place} → i < b.count → handle_at b.objects i ≡ h
-    → p ≡ start_of b i → located_from b h i p ≡ locate (live b) 2 h → InSlot i ≡ find_of b h → r ≡ place_from (object_at b i) p → Located b h (record { at = r; slot = InSlot i })
+    → p ≡ start_of b i → located_from b h i p ≡ locate (live b) 2 h → Some i ≡ find_of b h → r ≡ place_from (object_at b i) p → Located b h (record { at = r; slot = Some i })
 located b s h i p lt e q inv g f =
     record {
       same = ap₂ site (f ∙ sym (hit b h i p lt e) ∙ inv) g;
@@ -91,10 +90,10 @@ located b s h i p lt e q inv g f =
 
 -- the cases of a surface's place
 module _ (b : GdiState) (sound : is_sound b ≡ true) {u : SurfaceId} where
-  pub placed_panel : u ≡ Panel → SiteFound b u (site (At PanelMemory 0 b.width b.height) Nothing)
+  pub placed_panel : u ≡ Panel → SiteFound b u (site (At PanelMemory 0 b.width b.height) None)
   placed_panel e = let q = parts b sound in record { same = rw e; within = fits_inside q.width q.height (omega (arith, q.panel)) }
 
-  pub placed_stock : {h : ℕ} → u ≡ Bitmap h → h ≡ stock_bitmap → SiteFound b u (site (At Store 0 1 1) Nothing)
+  pub placed_stock : {h : ℕ} → u ≡ Bitmap h → h ≡ stock_bitmap → SiteFound b u (site (At Store 0 1 1) None)
   placed_stock e f = record { same = rw (e, eq-eqb _ _ f); within = omega (arith, (parts b sound).store) }
 
   pub placed_created : {h : ℕ} {r : Site} → u ≡ Bitmap h → (h ≡ stock_bitmap → ⊥) → Located b h r → SiteFound b u r

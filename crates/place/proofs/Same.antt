@@ -1,4 +1,5 @@
 -- A record whose slots keep handle, place and size has its surfaces in the same places; a changed DC is an example. Assumes nothing.
+use Rattle.std.specs.Prelude.{None, Some}
 use mathlib.Core.Bool.{true, not, cond}
 use mathlib.Core.List.{List, [], ◌∷◌}
 use mathlib.Core.Path.{◌≡◌, refl, sym, ◌∙◌, ap}
@@ -8,8 +9,6 @@ use lib.ListN.{get_or, set}
 use Rattle.arithmetic.proofs.Test.{all_same}
 use Rattle.arithmetic.proofs.Sum.{sum_same}
 use Rattle.gdi.specs.declared.Dc.{Dc}
-use Rattle.gdi.specs.declared.DcFound.TheVariants.{Is}
-use Rattle.gdi.specs.declared.Found.TheVariants.{Nothing}
 use Rattle.gdi.specs.declared.GdiObject.TheVariants.{Dc as DcOf}
 use Rattle.gdi.specs.declared.GdiState.{GdiState}
 use Rattle.gdi.specs.declared.Slot.{Slot}
@@ -113,7 +112,7 @@ pub record SameSoundness (d₀ d : Dc) : Type 0 where
 abbrev dc_slot : ℕ → Dc → Slot
 dc_slot h d = record { handle = h; object = DcOf d }
 
-module _ (b : GdiState) (dc : ℕ) {i : ℕ} {d₀ : Dc} (d : Dc) (e : dc_of b dc ≡ Is (Created i) d₀) where
+module _ (b : GdiState) (dc : ℕ) {i : ℕ} {d₀ : Dc} (d : Dc) (e : dc_of b dc ≡ Some (Created i, d₀)) where
   dc_kept : (j : ℕ) → Kept (get_or (set b.objects i (dc_slot dc d)) j no_slot) (slot_at b j)
   dc_kept =
       set_kept b.objects i (dc_slot dc d) (record {
@@ -128,28 +127,28 @@ module _ (b : GdiState) (dc : ℕ) {i : ℕ} {d₀ : Dc} (d : Dc) (e : dc_of b d
 
 module _ (b : GdiState) (dc : ℕ) {p : Spot} {d₀ : Dc} (d : Dc) where
   -- selection, settings and moves leave every surface where it was
-  pub updated_places : dc_of b dc ≡ Is p d₀ → SamePlaces b (with_dc b dc p d)
+  pub updated_places : dc_of b dc ≡ Some (p, d₀) → SamePlaces b (with_dc b dc p d)
   updated_places = by p
     where
-      by : (q : Spot) → dc_of b dc ≡ Is q d₀ → SamePlaces b (with_dc b dc q d)
+      by : (q : Spot) → dc_of b dc ≡ Some (q, d₀) → SamePlaces b (with_dc b dc q d)
       by Screen e Panel = refl
       by Screen e (Bitmap h) = refl
       by (Created i) e u = kept_places b b.next_handle (set b.objects i (dc_slot dc d)) (dc_kept b dc d e) u
 
   -- and keep the record sound
-  pub updated_sound : is_sound b ≡ true → dc_of b dc ≡ Is p d₀ → SameSoundness d₀ d → is_sound (with_dc b dc p d) ≡ true
+  pub updated_sound : is_sound b ≡ true → dc_of b dc ≡ Some (p, d₀) → SameSoundness d₀ d → is_sound (with_dc b dc p d) ≡ true
   unfolding is_sound
   updated_sound s e f = by p e ∙ s
     where
-      by : (q : Spot) → dc_of b dc ≡ Is q d₀ → is_sound (with_dc b dc q d) ≡ is_sound b
+      by : (q : Spot) → dc_of b dc ≡ Some (q, d₀) → is_sound (with_dc b dc q d) ≡ is_sound b
       by Screen e = rw (f.position, ← screen_found b dc e)
       by (Created i) e = kept_sound b b.next_handle (set b.objects i (dc_slot dc d)) (dc_kept b dc d e) (dc_fits b dc d e f)
 
   -- and every bitmap's record in its slot
-  pub updated_slot : dc_of b dc ≡ Is p d₀ → (u : SurfaceId) → slot_for (with_dc b dc p d) u ≡ slot_for b u
+  pub updated_slot : dc_of b dc ≡ Some (p, d₀) → (u : SurfaceId) → slot_for (with_dc b dc p d) u ≡ slot_for b u
   updated_slot = by p
     where
-      by : (q : Spot) → dc_of b dc ≡ Is q d₀ → (u : SurfaceId) → slot_for (with_dc b dc q d) u ≡ slot_for b u
+      by : (q : Spot) → dc_of b dc ≡ Some (q, d₀) → (u : SurfaceId) → slot_for (with_dc b dc q d) u ≡ slot_for b u
       by q e Panel = refl
       by Screen e (Bitmap h) = refl
-      by (Created i) e (Bitmap h) = ap (cond (eqb h stock_bitmap) Nothing) (scan_same b.objects (set b.objects i (dc_slot dc d)) h 0 b.count (λ j. (dc_kept b dc d e j).handle))
+      by (Created i) e (Bitmap h) = ap (cond (eqb h stock_bitmap) None) (scan_same b.objects (set b.objects i (dc_slot dc d)) h 0 b.count (λ j. (dc_kept b dc d e j).handle))

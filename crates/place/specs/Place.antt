@@ -1,15 +1,12 @@
 -- Surfaces: where their pixels lie, and which one a DC paints.
-use Rattle.std.specs.Prelude.{Bool, true, false, cond, List, [], ◌∷◌, ℕ, zero, suc, ◌+◌, ◌≤◌, ◌<◌, eqb, get_or}
+use Rattle.std.specs.Prelude.{Bool, true, false, cond, List, [], ◌∷◌, ℕ, zero, suc, ◌+◌, ◌≤◌, ◌<◌, eqb, get_or, Option, None, Some, Result, Ok, Err}
+use Rattle.gdi.specs.declared.Spot.{Spot}
+use Rattle.refusals.specs.declared.Refusal.{Refusal}
+use Rattle.refusals.specs.declared.Refusal.TheVariants.{NoDc as NoDcRefusal, NoSurface as NoSurfaceRefusal, NoSourceDc, NoSourceSurface}
 use Rattle.gdi.specs.declared.GdiState.{GdiState}
 use Rattle.gdi.specs.declared.Slot.{Slot}
 use Rattle.gdi.specs.declared.Dc.{Dc}
 use Rattle.gdi.specs.declared.Spot.TheVariants.{Screen, Created}
-use Rattle.gdi.specs.declared.Found.{Found}
-use Rattle.gdi.specs.declared.Found.TheVariants.{Nothing}
-use Rattle.gdi.specs.declared.DcFound.{DcFound}
-use Rattle.gdi.specs.declared.DcFound.TheVariants.{Is, Absent}
-use Rattle.gdi.specs.declared.SelectedBitmap.{SelectedBitmap}
-use Rattle.gdi.specs.declared.SelectedBitmap.TheVariants.{Unset, Chosen}
 use Rattle.gdi.specs.declared.GdiObject.{GdiObject}
 use Rattle.gdi.specs.declared.GdiObject.TheVariants.{Dc as DcOf, Bitmap as BitmapOf, Brush, Pen, Font}
 use Rattle.gdi.specs.Record.{no_slot, size, bytes_of}
@@ -22,8 +19,9 @@ use Rattle.place.specs.declared.Place.TheVariants.{Nowhere, At}
 use Rattle.place.specs.declared.Site.{Site}
 use Rattle.place.specs.declared.SurfaceId.{SurfaceId}
 use Rattle.place.specs.declared.SurfaceId.TheVariants.{Panel, Bitmap}
+use Rattle.place.specs.declared.NoTarget.{NoTarget}
 use Rattle.place.specs.declared.Target.{Target}
-use Rattle.place.specs.declared.Target.TheVariants.{NoDc, NoSurface, On}
+use Rattle.place.specs.declared.NoTarget.TheVariants.{NoDc, NoSurface}
 
 -- two names name the same surface
 abbrev pub same : SurfaceId → SurfaceId → Bool
@@ -60,9 +58,9 @@ where_is b Panel = At PanelMemory 0 b.width b.height
 where_is b (Bitmap h) = cond (eqb h stock_bitmap) (At Store 0 1 1) (locate (live b) 2 h)
 
 -- the slot of a bitmap's record; the panel and the stock bitmap have none
-abbrev pub slot_for : GdiState → SurfaceId → Found
-slot_for b Panel = Nothing
-slot_for b (Bitmap h) = cond (eqb h stock_bitmap) Nothing (find_of b h)
+abbrev pub slot_for : GdiState → SurfaceId → Option ℕ
+slot_for b Panel = None
+slot_for b (Bitmap h) = cond (eqb h stock_bitmap) None (find_of b h)
 
 -- where a surface lies, and the slot of its record
 abbrev pub site_of : GdiState → SurfaceId → Site
@@ -85,21 +83,34 @@ abbrev pub Within : (panel_len store_len : ℕ) → Place → Type 0
 Within n k Nowhere = Unit
 Within n k (At m p w h) = Inside (length_of n k m) p w h
 
+-- the surface s at the site i, which a DC with the record d paints
+abbrev pub on : SurfaceId → Site → Dc → Result Target NoTarget
+on s i d = Ok (record { id = s; site = i; dc = d })
+
+-- the refusal of a drawing on what has no surface, and of a blit from it
+abbrev pub refusal_of : NoTarget → Refusal
+refusal_of NoDc = NoDcRefusal
+refusal_of NoSurface = NoSurfaceRefusal
+
+abbrev pub source_refusal_of : NoTarget → Refusal
+source_refusal_of NoDc = NoSourceDc
+source_refusal_of NoSurface = NoSourceSurface
+
 -- the target, or no surface if the place is nowhere
-abbrev pub unless_nowhere : Place → Target → Target
-unless_nowhere Nowhere t = NoSurface
+abbrev pub unless_nowhere : Place → Result Target NoTarget → Result Target NoTarget
+unless_nowhere Nowhere t = (Err NoSurface)
 unless_nowhere (At m p w h) t = t
 
-abbrev pub on_selected : GdiState → Dc → SelectedBitmap → Target
-on_selected b d Unset = NoSurface
-on_selected b d (Chosen h) = unless_nowhere (where_is b (Bitmap h)) (On (Bitmap h) (site_of b (Bitmap h)) d)
+abbrev pub on_selected : GdiState → Dc → Option ℕ → Result Target NoTarget
+on_selected b d None = (Err NoSurface)
+on_selected b d (Some h) = unless_nowhere (where_is b (Bitmap h)) (on (Bitmap h) (site_of b (Bitmap h)) d)
 
-abbrev pub target_found : GdiState → DcFound → Target
-target_found b (Is Screen d) = On Panel (site_of b Panel) d
-target_found b (Is (Created i) d) = on_selected b d d.selected_bitmap
-target_found b Absent = NoDc
+abbrev pub target_found : GdiState → Option (Spot × Dc) → Result Target NoTarget
+target_found b (Some (Screen, d)) = on Panel (site_of b Panel) d
+target_found b (Some (Created i, d)) = on_selected b d d.selected_bitmap
+target_found b None = (Err NoDc)
 
 -- the screen DC paints the panel, a memory DC its selected live bitmap, stock or created; before a first selection it has no
 -- surface
-unfoldable pub target_of : GdiState → ℕ → Target
+unfoldable pub target_of : GdiState → ℕ → Result Target NoTarget
 target_of b dc = target_found b (dc_of b dc)

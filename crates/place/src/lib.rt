@@ -7,13 +7,12 @@ ghost use Rattle.numbers.specs.Layout.{object_size, slot_size, kind_place, objec
 ghost use Rattle.numbers.specs.Block.{at, object_of};
 ghost use Rattle.numbers.specs.View.{view, is_record};
 ghost use Rattle.sound.specs.Sound.{is_sound};
-ghost use Rattle.gdi.specs.declared.Found.TheVariants.{Nothing};
-ghost use Rattle.gdi.specs.declared.DcFound.TheVariants.{Is};
-ghost use Rattle.place.specs.Place.{place_from, target_found, target_of};
+ghost use Rattle.place.specs.Place.{refusal_of, source_refusal_of, place_from, target_found, target_of};
 ghost use Rattle.place.specs.Inner.{Located, SiteFound};
 
-use gdi::{Dc, DcFound, Found, STOCK_DEFAULT_BITMAP, SelectedBitmap, Spot};
+use gdi::{Dc, STOCK_DEFAULT_BITMAP, Spot};
 use numbers::{BITMAP_HEIGHT, COUNT, HEIGHT, KIND, OBJECT, SLOT, SLOTS, WIDTH};
+use refusals::Refusal;
 
 // The two memories that a caller lends.
 #[derive(Clone, Copy)]
@@ -40,15 +39,46 @@ pub enum SurfaceId {
 #[derive(Clone, Copy)]
 pub struct Site {
     pub at: Place,
-    pub slot: Found,
+    pub slot: Option<usize>,
 }
 
 // The surface that a DC paints, its site, and the DC's record.
 #[derive(Clone, Copy)]
-pub enum Target {
+pub struct Target {
+    pub id: SurfaceId,
+    pub site: Site,
+    pub dc: Dc,
+}
+
+// Why a handle paints no surface: it names no DC, or its DC has none.
+#[derive(Clone, Copy, Debug, PartialEq, Eq)]
+pub enum NoTarget {
     NoDc,
     NoSurface,
-    On(SurfaceId, Site, Dc),
+}
+
+// The refusal of a drawing on it.
+impl From<NoTarget> for Refusal {
+    ghost from_gives = { λ why r. r ≡ refusal_of why };
+
+    fn from(why: NoTarget) -> Refusal {
+        match why {
+            NoTarget::NoDc => Refusal::NoDc,
+            NoTarget::NoSurface => Refusal::NoSurface,
+        }
+    }
+}
+
+impl NoTarget {
+    // Returns the refusal of a blit from it.
+    pub fn as_source(self) -> Refusal
+        ensures { result ≡ source_refusal_of self }
+    {
+        match self {
+            NoTarget::NoDc => Refusal::NoSourceDc,
+            NoTarget::NoSurface => Refusal::NoSourceSurface,
+        }
+    }
 }
 
 // Returns the place of the object in the slot at number p, whose pixels begin at byte start of the store.
@@ -74,31 +104,25 @@ fn locate(numbers: &[u32], handle: u32) -> Site
     ensures { Located (view numbers.now) handle result }
 {
     let n = numbers[COUNT] as usize;
-    let mut i: usize = 0;
     let mut start: usize = 2;
-    while i < n {
+    for i in 0..n {
         let p = SLOTS + SLOT * i;
         if numbers[p] == handle {
-            let at = frame(numbers, p, start);
             return Site {
-                at,
-                slot: Found::At(i),
+                at: frame(numbers, p, start),
+                slot: Some(i),
             };
         }
         start += sound::bytes_of(numbers, p);
-        i += 1;
     }
     untabled(Place::Nowhere)
 }
 
 // Returns the site of a surface without a slot.
 fn untabled(at: Place) -> Site
-    ensures { result ≡ record { at = at; slot = Nothing } }
+    ensures { result ≡ record { at = at; slot = None } }
 {
-    Site {
-        at,
-        slot: Found::Nothing,
-    }
+    Site { at, slot: None }
 }
 
 // Returns where a surface lies.
@@ -119,41 +143,38 @@ pub fn where_is(numbers: &[u32], id: SurfaceId) -> Site
 }
 
 // Returns the surface that a DC paints.
-pub fn target_of(numbers: &[u32], dc: u32) -> Target
+pub fn target_of(numbers: &[u32], dc: u32) -> Result<Target, NoTarget>
     requires numbers_value { is_record numbers.now ≡ true }
     requires numbers_value_2 { is_sound (view numbers.now) ≡ true }
     ensures { result ≡ target_of (view numbers.now) dc }
 {
     match lookup::find_dc(numbers, dc) {
-        DcFound::Is(p, d) => target_at(numbers, p, d),
-        DcFound::Absent => Target::NoDc,
+        Some((p, d)) => target_at(numbers, p, d),
+        None => Err(NoTarget::NoDc),
     }
 }
 
 // The same for a DC that was found at p.
-pub fn target_at(numbers: &[u32], p: Spot, d: Dc) -> Target
+pub fn target_at(numbers: &[u32], p: Spot, dc: Dc) -> Result<Target, NoTarget>
     requires numbers_value { is_record numbers.now ≡ true }
     requires numbers_value_2 { is_sound (view numbers.now) ≡ true }
-    ensures { result ≡ target_found (view numbers.now) (Is p d) }
+    ensures { result ≡ target_found (view numbers.now) (Some (p, dc)) }
 {
     match p {
         Spot::Screen => {
-            let site = where_is(numbers, SurfaceId::Panel);
-            Target::On(SurfaceId::Panel, site, d)
+            let id = SurfaceId::Panel;
+            let site = where_is(numbers, id);
+            Ok(Target { id, site, dc })
         }
         Spot::Created(_) => {
-            let k = d.selected_bitmap;
-            match k {
-                SelectedBitmap::Unset => Target::NoSurface,
-                SelectedBitmap::Chosen(h) => {
-                    let s = SurfaceId::Bitmap(h);
-                    let site = where_is(numbers, s);
-                    let at = site.at;
-                    match at {
-                        Place::Nowhere => Target::NoSurface,
-                        Place::At(_, _, _, _) => Target::On(s, site, d),
-                    }
-                }
+            let Some(handle) = dc.selected_bitmap else {
+                return Err(NoTarget::NoSurface);
+            };
+            let id = SurfaceId::Bitmap(handle);
+            let site = where_is(numbers, id);
+            match site.at {
+                Place::Nowhere => Err(NoTarget::NoSurface),
+                Place::At(_, _, _, _) => Ok(Target { id, site, dc }),
             }
         }
     }

@@ -1,4 +1,5 @@
 -- A property of every refusal and of every accepted call is one of every drawing call and every move. Assumes nothing.
+use Rattle.std.specs.Prelude.{Option, Some, None, Result, Err, Ok}
 use mathlib.Core.Bool.{Bool, true, false, cond, ◌&&◌, ◌||◌}
 use mathlib.Core.List.{List}
 use mathlib.Core.Path.{◌≡◌, refl}
@@ -11,19 +12,19 @@ use Rattle.arithmetic.proofs.Test.{neither, together}
 use Rattle.rop3.specs.Rop3.{table_of, uses_src}
 use Rattle.surface.specs.Refusal.{side}
 use Rattle.text.specs.Ink.{unit_count}
+use Rattle.gdi.specs.declared.Spot.{Spot}
 use Rattle.gdi.specs.declared.GdiState.{GdiState}
 use Rattle.gdi.specs.declared.Dc.{Dc}
-use Rattle.gdi.specs.declared.DcFound.{DcFound}
-use Rattle.gdi.specs.declared.DcFound.TheVariants.{Is, Absent}
 use Rattle.gdi.specs.Record.{size, is_position}
 use Rattle.gdi.specs.Lookup.{dc_of}
 use Rattle.sound.specs.Sound.{sizes_fit, is_sound}
 use Rattle.saved_table.specs.Table.{saved_table}
 use Rattle.saved_table.specs.Held.{held_by, is_table}
 use Rattle.place.specs.declared.SurfaceId.{SurfaceId}
+use Rattle.place.specs.declared.NoTarget.{NoTarget}
 use Rattle.place.specs.declared.Target.{Target}
-use Rattle.place.specs.declared.Target.TheVariants.{NoDc, NoSurface, On}
-use Rattle.place.specs.Place.{target_of}
+use Rattle.place.specs.declared.NoTarget.TheVariants.{NoDc, NoSurface}
+use Rattle.place.specs.Place.{target_of, on}
 use Rattle.plan.specs.declared.Area.{Area}
 use Rattle.plan.specs.declared.Point.{Point}
 use Rattle.plan.specs.Answer.{done, saved}
@@ -35,15 +36,15 @@ use Rattle.plan.specs.Load.{loaded, load_table}
 use Rattle.plan.specs.Save.{save_table}
 
 module _ {ℓ} (P : Plan → Type ℓ) (b : GdiState) (refused : (n : ℕ) → P (refuse n b)) where
-  on_target_lem : (q : Target) (f : SurfaceId → Dc → Plan) → ((s : SurfaceId) (d : Dc) → P (f s d)) → P (on_target b q f)
-  on_target_lem NoDc f k = refused 1
-  on_target_lem NoSurface f k = refused 2
-  on_target_lem (On s i d) f k = k s d
+  on_target_lem : (q : Result Target NoTarget) (f : SurfaceId → Dc → Plan) → ((s : SurfaceId) (d : Dc) → P (f s d)) → P (on_target b q f)
+  on_target_lem (Err NoDc) f k = refused 1
+  on_target_lem (Err NoSurface) f k = refused 2
+  on_target_lem (Ok t) f k = k t.id t.dc
 
-  on_source_lem : (q : Target) (f : SurfaceId → Plan) → ((s : SurfaceId) → P (f s)) → P (on_source b q f)
-  on_source_lem NoDc f k = refused 3
-  on_source_lem NoSurface f k = refused 4
-  on_source_lem (On s i d) f k = k s
+  on_source_lem : (q : Result Target NoTarget) (f : SurfaceId → Plan) → ((s : SurfaceId) → P (f s)) → P (on_source b q f)
+  on_source_lem (Err NoDc) f k = refused 3
+  on_source_lem (Err NoSurface) f k = refused 4
+  on_source_lem (Ok t) f k = k t.id
 
   pub pattern_fill_by : (dc : ℕ) (a : Area) (rop : ℕ) → ((s : SurfaceId) (d : Dc) → P (pattern_fill_on b a (table_of rop) s d)) → P (pattern_fill b dc a rop)
   unfolding pattern_fill
@@ -73,9 +74,9 @@ module _ {ℓ} (P : Plan → Type ℓ) (b : GdiState) (refused : (n : ℕ) → P
   unfolding move_to
   move_by dc to k = by (dc_of b dc)
     where
-      by : (q : DcFound) → P (move_at b dc to q)
-      by (Is p d) = unless_far_lem to (λ e. k e d)
-      by Absent = refused 1
+      by : (q : Option (Spot × Dc)) → P (move_at b dc to q)
+      by (Some (p, d)) = unless_far_lem to (λ e. k e d)
+      by None = refused 1
 
   pub line_by : (dc : ℕ) (to : Point) → (is_position to.x to.y ≡ true → (s : SurfaceId) (d : Dc) → P (line_on b dc to s d)) → P (line_to b dc to)
   unfolding line_to

@@ -1,17 +1,15 @@
 -- No refused call changes anything. Assumes nothing.
+use Rattle.std.specs.Prelude.{Option, Some, None}
 use mathlib.Core.Bool.{Bool, true, false, cond, ◌||◌}
 use mathlib.Core.List.{List}
 use mathlib.Core.Path.{◌≡◌, refl}
 use Prim.Native.Nat.{ℕ, ◌+◌}
 use lib.Dec.{eqb, leb, ltb}
+use Rattle.gdi.specs.declared.Spot.{Spot}
 use Rattle.gdi.specs.declared.GdiState.{GdiState}
 use Rattle.gdi.specs.declared.GdiObject.{GdiObject}
 use Rattle.gdi.specs.declared.Dc.{Dc}
 use Rattle.gdi.specs.declared.Kind.{Kind}
-use Rattle.gdi.specs.declared.Found.{Found}
-use Rattle.gdi.specs.declared.Found.TheVariants.{At, Nothing}
-use Rattle.gdi.specs.declared.DcFound.{DcFound}
-use Rattle.gdi.specs.declared.DcFound.TheVariants.{Is, Absent}
 use Rattle.gdi.specs.Record.{bytes_of}
 use Rattle.gdi.specs.Stock.{is_stock}
 use Rattle.gdi.specs.Lookup.{find_of, dc_of, kind_of}
@@ -62,27 +60,27 @@ module _ (stock : Parts) (gone : ℕ → Parts) (none : Parts) (b : GdiState) (h
   unfolding deletion_of
   leave = by (is_stock h) (find_of b h)
     where
-      by : (t : Bool) (q : Found) → Keeps b (cond t (record_only b stock) (deletion_at gone none b h q))
+      by : (t : Bool) (q : Option ℕ) → Keeps b (cond t (record_only b stock) (deletion_at gone none b h q))
       by true q = accepted b _ s
-      by false (At i) = accepted b _ (g i)
-      by false Nothing = accepted b _ n
+      by false (Some i) = accepted b _ (g i)
+      by false None = accepted b _ n
 
 select : (b : GdiState) (dc h : ℕ) → Keeps b (select_into b dc h)
 unfolding select_into
 select b dc h = by (is_other (kind_of b h)) (kind_of b h) (dc_of b dc)
   where
-    by : (t : Bool) (k : Kind) (q : DcFound) → Keeps b (cond t (record_only b (answered 0)) (select_at b dc h k q))
+    by : (t : Bool) (k : Kind) (q : Option (Spot × Dc)) → Keeps b (cond t (record_only b (answered 0)) (select_at b dc h k q))
     by true k q = accepted b _ refl
-    by false k (Is p d) = accepted b _ refl
-    by false k Absent = accepted b _ refl
+    by false k (Some (p, d)) = accepted b _ refl
+    by false k None = accepted b _ refl
 
 set : (old : Dc → Parts) (new : Dc → Dc) (b : GdiState) (dc : ℕ) → ((d : Dc) → (old d).number ≡ 0) → Keeps b (setting old new b dc)
 unfolding setting
 set old new b dc e = by (dc_of b dc)
   where
-    by : (q : DcFound) → Keeps b (setting_at old new b dc q)
-    by (Is p d) = accepted b _ (e d)
-    by Absent = refusal b 1
+    by : (q : Option (Spot × Dc)) → Keeps b (setting_at old new b dc q)
+    by (Some (p, d)) = accepted b _ (e d)
+    by None = refusal b 1
 
 -- one line for each call
 call : (c : Call) (us : List ℕ) (b : GdiState) → Keeps b (act c us b)

@@ -1,5 +1,6 @@
 -- Whatever is asked of a device keeps the 256 slots of the table, those past the count vacant, and the screen DC the screen's. Assumes
 -- nothing.
+use Rattle.std.specs.Prelude.{Option, Some, None}
 use mathlib.Core.Bool.{Bool, true, false, cond, ◌||◌}
 use mathlib.Core.List.{List, [], ◌∷◌}
 use mathlib.Core.Path.{◌≡◌, refl, sym, ◌∙◌, ap}
@@ -14,12 +15,8 @@ use Rattle.gdi.specs.declared.GdiState.{GdiState}
 use Rattle.gdi.specs.declared.GdiObject.{GdiObject}
 use Rattle.gdi.specs.declared.Slot.{Slot}
 use Rattle.gdi.specs.declared.Dc.{Dc}
-use Rattle.gdi.specs.declared.Found.{Found}
-use Rattle.gdi.specs.declared.Found.TheVariants.{At, Nothing}
 use Rattle.gdi.specs.declared.Spot.{Spot}
 use Rattle.gdi.specs.declared.Spot.TheVariants.{Screen, Created}
-use Rattle.gdi.specs.declared.DcFound.{DcFound}
-use Rattle.gdi.specs.declared.DcFound.TheVariants.{Is, Absent}
 use Rattle.gdi.specs.Record.{no_slot, vacant_slot, bytes_of}
 use Rattle.gdi.specs.Updates.{with_sides, with_stock_dirty, with_dc}
 use Rattle.gdi.specs.Stock.{is_stock, stock_bitmap}
@@ -109,13 +106,13 @@ module _ (b : GdiState) (sound : Sound b) (v : Restorable b) where
   unfolding deletion_of
   goes_restorable stock gone none h = by (is_stock h) (find_of b h) refl
     where
-      by : (t : Bool) (q : Found) → find_of b h ≡ q → Restorable (cond t (record_only b stock) (deletion_at gone none b h q)).outcome.state
+      by : (t : Bool) (q : Option ℕ) → find_of b h ≡ q → Restorable (cond t (record_only b stock) (deletion_at gone none b h q)).outcome.state
       by true q e = v
-      by false (At i) e = gone_restorable i (found_count b h e)
-      by false Nothing e = v
+      by false (Some i) e = gone_restorable i (found_count b h e)
+      by false None e = v
 
   -- a DC's record changes
-  updated_restorable : (dc : ℕ) (p : Spot) (d₀ d : Dc) → dc_of b dc ≡ Is p d₀ → d.surface ≡ d₀.surface → Restorable (with_dc b dc p d)
+  updated_restorable : (dc : ℕ) (p : Spot) (d₀ d : Dc) → dc_of b dc ≡ Some (p, d₀) → d.surface ≡ d₀.surface → Restorable (with_dc b dc p d)
   updated_restorable dc Screen d₀ d e f = record { table = v.table; vacant = v.vacant; screen = f ∙ ap (λ (x : Dc). x.surface) (sym (screen_found b dc e)) ∙ v.screen }
   updated_restorable dc (Created i) d₀ d e f =
       let lt : i < b.count = found_count b dc (dc_found_lem b dc e).0 in
@@ -125,25 +122,25 @@ module _ (b : GdiState) (sound : Sound b) (v : Restorable b) where
   unfolding select_into
   select_restorable dc h = by (is_other (kind_of b h)) (dc_of b dc) refl
     where
-      by : (t : Bool) (q : DcFound) → dc_of b dc ≡ q → Restorable (cond t (record_only b (answered 0)) (select_at b dc h (kind_of b h) q)).outcome.state
+      by : (t : Bool) (q : Option (Spot × Dc)) → dc_of b dc ≡ q → Restorable (cond t (record_only b (answered 0)) (select_at b dc h (kind_of b h) q)).outcome.state
       by true q e = v
-      by false (Is p d) e = updated_restorable dc p d _ e (select_same d h (kind_of b h)).surface
-      by false Absent e = v
+      by false (Some (p, d)) e = updated_restorable dc p d _ e (select_same d h (kind_of b h)).surface
+      by false None e = v
 
   setting_restorable : (old : Dc → Parts) (new : Dc → Dc) → ((d : Dc) → (new d).surface ≡ d.surface) → (dc : ℕ) → Restorable (setting old new b dc).outcome.state
   unfolding setting
   setting_restorable old new same dc = by (dc_of b dc) refl
     where
-      by : (q : DcFound) → dc_of b dc ≡ q → Restorable (setting_at old new b dc q).outcome.state
-      by (Is p d) e = updated_restorable dc p d _ e (same d)
-      by Absent e = v
+      by : (q : Option (Spot × Dc)) → dc_of b dc ≡ q → Restorable (setting_at old new b dc q).outcome.state
+      by (Some (p, d)) e = updated_restorable dc p d _ e (same d)
+      by None e = v
 
   moved_restorable : (dc : ℕ) (to : Point) → Restorable (moved_to b dc to)
   moved_restorable dc to = by (dc_of b dc) refl
     where
-      by : (q : DcFound) → dc_of b dc ≡ q → Restorable (moved_at b dc to q)
-      by (Is p d) e = updated_restorable dc p d _ e refl
-      by Absent e = v
+      by : (q : Option (Spot × Dc)) → dc_of b dc ≡ q → Restorable (moved_at b dc to q)
+      by (Some (p, d)) e = updated_restorable dc p d _ e refl
+      by None e = v
 
 -- a dirty mark is made
 next_frame_restorable : (b : GdiState) → Restorable b → Restorable (next_frame b)
@@ -154,12 +151,12 @@ unfolding dirtied
 dirtied_restorable b Panel v = next_frame_restorable b v
 dirtied_restorable b (Bitmap h) v = by (eqb h stock_bitmap) (find_of b h) refl
   where
-    by : (t : Bool) (q : Found) → find_of b h ≡ q → Restorable (cond t (with_stock_dirty b) (created_dirtied b q))
+    by : (t : Bool) (q : Option ℕ) → find_of b h ≡ q → Restorable (cond t (with_stock_dirty b) (created_dirtied b q))
     by true q e = record { table = v.table; vacant = v.vacant; screen = v.screen }
-    by false (At i) e =
+    by false (Some i) e =
         let lt : i < b.count = found_count b h e in
         record { table = length-set b.objects i _ ∙ v.table; vacant = λ j le few. get_or-set_other b.objects i j _ no_slot (λ q. absurd (omega (arith, q, lt))) ∙ v.vacant j le few; screen = v.screen }
-    by false Nothing e = v
+    by false None e = v
 
 dirtied_if_restorable : (due : Bool) (s : SurfaceId) (b : GdiState) → Restorable b → Restorable (dirtied_if due s b)
 unfolding dirtied_if

@@ -1,4 +1,5 @@
 -- Select, the settings and moves change DC records alone; every surface stays in its place. Assumes nothing.
+use Rattle.std.specs.Prelude.{Option, Some, None}
 use mathlib.Core.Bool.{Bool, true, false, cond}
 use mathlib.Core.List.{[]}
 use mathlib.Core.Path.{◌≡◌, refl, sym, ◌∙◌}
@@ -9,8 +10,6 @@ use Rattle.gdi.specs.declared.Kind.{Kind}
 use Rattle.gdi.specs.declared.Kind.TheVariants.{Bitmap, Brush, Pen, Font, Other}
 use Rattle.gdi.specs.declared.Spot.{Spot}
 use Rattle.gdi.specs.declared.Spot.TheVariants.{Screen, Created}
-use Rattle.gdi.specs.declared.DcFound.{DcFound}
-use Rattle.gdi.specs.declared.DcFound.TheVariants.{Is, Absent}
 use Rattle.gdi.specs.Record.{is_position}
 use Rattle.gdi.specs.Lookup.{dc_of, kind_of}
 use Rattle.gdi.specs.Updates.{with_dc}
@@ -33,7 +32,7 @@ record_only_unpainted : (b : GdiState) (a : Parts) → Unpainted b (record_only 
 record_only_unpainted b a = record { paint = refl; still = still_same b }
 
 -- another DC record, as sound as the one before
-module _ (b : GdiState) (dc : ℕ) {p : Spot} {d₀ : Dc} (d : Dc) (found : dc_of b dc ≡ Is p d₀) (same : is_sound b ≡ true → SameSoundness d₀ d) where
+module _ (b : GdiState) (dc : ℕ) {p : Spot} {d₀ : Dc} (d : Dc) (found : dc_of b dc ≡ Some (p, d₀)) (same : is_sound b ≡ true → SameSoundness d₀ d) where
   panel_kept : (p : Spot) → (with_dc b dc p d).panel_len ≡ b.panel_len
   panel_kept Screen = refl
   panel_kept (Created i) = refl
@@ -55,9 +54,9 @@ module _ (b : GdiState) (dc : ℕ) {p : Spot} {d₀ : Dc} (d : Dc) (found : dc_o
 pub moved_still : (b : GdiState) (dc : ℕ) (to : Point) → is_position to.x to.y ≡ true → Still b (moved_to b dc to)
 moved_still b dc to near = by (dc_of b dc) refl
   where
-    by : (q : DcFound) → dc_of b dc ≡ q → Still b (moved_at b dc to q)
-    by (Is p d) e = updated_still b dc _ e (λ s. record { surface = refl; position = near ∙ sym (found_positioned b dc s e) })
-    by Absent e = still_same b
+    by : (q : Option (Spot × Dc)) → dc_of b dc ≡ q → Still b (moved_at b dc to q)
+    by (Some (p, d)) e = updated_still b dc _ e (λ s. record { surface = refl; position = near ∙ sym (found_positioned b dc s e) })
+    by None e = still_same b
 
 pub select_same : (d : Dc) (h : ℕ) (k : Kind) → SameSoundness d (select_in d h k)
 select_same d h Bitmap = record { surface = refl; position = refl }
@@ -70,15 +69,15 @@ pub select_unpainted : (b : GdiState) (dc h : ℕ) → Unpainted b (select_into 
 unfolding select_into
 select_unpainted b dc h = by (is_other (kind_of b h)) (dc_of b dc) refl
   where
-    by : (t : Bool) (q : DcFound) → dc_of b dc ≡ q → Unpainted b (cond t (record_only b (answered 0)) (select_at b dc h (kind_of b h) q))
+    by : (t : Bool) (q : Option (Spot × Dc)) → dc_of b dc ≡ q → Unpainted b (cond t (record_only b (answered 0)) (select_at b dc h (kind_of b h) q))
     by true q e = record_only_unpainted b _
-    by false (Is p d) e = record { paint = refl; still = updated_still b dc _ e (λ s. select_same d h (kind_of b h)) }
-    by false Absent e = record_only_unpainted b _
+    by false (Some (p, d)) e = record { paint = refl; still = updated_still b dc _ e (λ s. select_same d h (kind_of b h)) }
+    by false None e = record_only_unpainted b _
 
 pub setting_unpainted : (old : Dc → Parts) (new : Dc → Dc) → ((d : Dc) → SameSoundness d (new d)) → (b : GdiState) (dc : ℕ) → Unpainted b (setting old new b dc)
 unfolding setting
 setting_unpainted old new same b dc = by (dc_of b dc) refl
   where
-    by : (q : DcFound) → dc_of b dc ≡ q → Unpainted b (setting_at old new b dc q)
-    by (Is p d) e = record { paint = refl; still = updated_still b dc _ e (λ s. same d) }
-    by Absent e = record_only_unpainted b _
+    by : (q : Option (Spot × Dc)) → dc_of b dc ≡ q → Unpainted b (setting_at old new b dc q)
+    by (Some (p, d)) e = record { paint = refl; still = updated_still b dc _ e (λ s. same d) }
+    by None e = record_only_unpainted b _

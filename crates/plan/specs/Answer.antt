@@ -1,9 +1,11 @@
 -- What a call answers: a number and values.
-use Rattle.std.specs.Prelude.{Bool, false, List, [], ℕ, pos, length}
+use Rattle.std.specs.Prelude.{Bool, false, List, [], ℕ, pos, length, Result, Ok, Err}
+use Rattle.refusals.specs.declared.Refusal.{Refusal}
+use Rattle.refusals.specs.Refusal.{code_of}
 use Rattle.gdi.specs.declared.GdiObject.{GdiObject}
 use Rattle.plan.specs.declared.Point.{Point}
 use Rattle.plan.specs.declared.Answer.{Answer}
-use Rattle.plan.specs.declared.Answer.TheVariants.{Refused, Handle, Deleted, Removed, NotRemoved, OldColor, OldAlign, OldMode, OldPosition, Drawn, Advance}
+use Rattle.plan.specs.declared.Answer.TheVariants.{Handle, Deleted, Removed, NotRemoved, OldColor, OldAlign, OldMode, OldPosition, Drawn, Advance}
 
 -- an object's record, or none
 pub data Object : Type 0 where
@@ -50,16 +52,16 @@ saved t = record { number = 0; value = length t; flag = false; position = origin
 abbrev pub done : Parts
 done = parts 0 0 false origin none
 
--- the parts of each case of the code's answer
-abbrev pub parts_of : Answer → Parts
-parts_of (Refused n) = refused n
-parts_of (Handle h) = answered h
-parts_of (Deleted f) = flagged f
-parts_of (Removed o) = removed o
-parts_of NotRemoved = done
-parts_of (OldColor c) = answered c.0
-parts_of (OldAlign v) = answered v
-parts_of (OldMode f) = flagged f
-parts_of (OldPosition p) = placed p
-parts_of Drawn = done
-parts_of (Advance n) = answered n
+-- the parts of each case of the code's answer, and of a refusal
+abbrev pub parts_of : Result Answer Refusal → Parts
+parts_of (Err r) = refused (code_of r)
+parts_of (Ok (Handle h)) = answered h
+parts_of (Ok (Deleted f)) = flagged f
+parts_of (Ok (Removed o)) = removed o
+parts_of (Ok NotRemoved) = done
+parts_of (Ok (OldColor c)) = answered c.0
+parts_of (Ok (OldAlign v)) = answered v
+parts_of (Ok (OldMode f)) = flagged f
+parts_of (Ok (OldPosition p)) = placed p
+parts_of (Ok Drawn) = done
+parts_of (Ok (Advance n)) = answered n

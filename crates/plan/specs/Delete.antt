@@ -1,8 +1,6 @@
 -- Delete and remove: a created object is removed from the table, and its pixels from the store; the gap is closed.
-use Rattle.std.specs.Prelude.{true, false, cond, ℕ}
+use Rattle.std.specs.Prelude.{true, false, cond, ℕ, Option, Some, None}
 use Rattle.gdi.specs.declared.GdiState.{GdiState}
-use Rattle.gdi.specs.declared.Found.{Found}
-use Rattle.gdi.specs.declared.Found.TheVariants.{At, Nothing}
 use Rattle.gdi.specs.Stock.{is_stock}
 use Rattle.gdi.specs.Lookup.{object_at, find_of}
 use Rattle.removal.specs.Removal.{without_at}
@@ -11,9 +9,9 @@ use Rattle.paint.specs.Paint.{closing}
 use Rattle.plan.specs.Plan.{Plan, record_only}
 
 -- the plan for what the lookup of the handle h found: object i is removed, or there is none
-abbrev pub deletion_at : (gone : ℕ → Parts) (none : Parts) → GdiState → ℕ → Found → Plan
-deletion_at gone none b h (At i) = record { outcome = record { state = without_at b i; answer = gone i }; paint = closing b h i }
-deletion_at gone none b h Nothing = record_only b none
+abbrev pub deletion_at : (gone : ℕ → Parts) (none : Parts) → GdiState → ℕ → Option ℕ → Plan
+deletion_at gone none b h (Some i) = record { outcome = record { state = without_at b i; answer = gone i }; paint = closing b h i }
+deletion_at gone none b h None = record_only b none
 
 -- a stock object is kept, a created one is removed; the first arguments are the answers for a stock object, for the created object
 -- i, and for no object

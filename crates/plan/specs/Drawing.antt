@@ -1,5 +1,5 @@
 -- Drawing by a DC's handle: pattern fill, rectangle, text and blit.
-use Rattle.std.specs.Prelude.{Bool, false, cond, List, [], ◌∷◌, ℕ, ◌*◌, leb, ltb}
+use Rattle.std.specs.Prelude.{Bool, false, cond, List, [], ◌∷◌, ℕ, ◌*◌, leb, ltb, Result, Err, Ok}
 use Rattle.arithmetic.specs.Integer.{positive}
 use Rattle.rop3.specs.Rop3.{table_of, uses_src}
 use Rattle.clip_blit.specs.Blit.{source_at, drawn_at}
@@ -15,9 +15,10 @@ use Rattle.gdi.specs.declared.Dc.{Dc}
 use Rattle.place.specs.declared.Place.{Place}
 use Rattle.place.specs.declared.Place.TheVariants.{Nowhere, At}
 use Rattle.place.specs.declared.SurfaceId.{SurfaceId}
+use Rattle.place.specs.declared.NoTarget.{NoTarget}
 use Rattle.place.specs.declared.Target.{Target}
-use Rattle.place.specs.declared.Target.TheVariants.{NoDc, NoSurface, On}
-use Rattle.place.specs.Place.{where_is, target_of}
+use Rattle.place.specs.declared.NoTarget.TheVariants.{NoDc, NoSurface}
+use Rattle.place.specs.Place.{where_is, target_of, on}
 use Rattle.plan.specs.declared.Area.{Area}
 use Rattle.plan.specs.declared.Point.{Point}
 use Rattle.plan.specs.Answer.{answered, done}
@@ -27,16 +28,16 @@ use Rattle.plan.specs.Plan.{Plan, refuse}
 use Rattle.plan.specs.Stroke.{Stroke, drawn_by}
 
 -- 1 if there is no such DC, then 2 if the DC has no surface
-abbrev pub on_target : GdiState → Target → (SurfaceId → Dc → Plan) → Plan
-on_target b NoDc f = refuse 1 b
-on_target b NoSurface f = refuse 2 b
-on_target b (On s i d) f = f s d
+abbrev pub on_target : GdiState → Result Target NoTarget → (SurfaceId → Dc → Plan) → Plan
+on_target b (Err NoDc) f = refuse 1 b
+on_target b (Err NoSurface) f = refuse 2 b
+on_target b (Ok t) f = f t.id t.dc
 
 -- 3 and 4, the same for the source
-abbrev pub on_source : GdiState → Target → (SurfaceId → Plan) → Plan
-on_source b NoDc f = refuse 3 b
-on_source b NoSurface f = refuse 4 b
-on_source b (On s i d) f = f s
+abbrev pub on_source : GdiState → Result Target NoTarget → (SurfaceId → Plan) → Plan
+on_source b (Err NoDc) f = refuse 3 b
+on_source b (Err NoSurface) f = refuse 4 b
+on_source b (Ok t) f = f t.id
 
 -- the RGB565 word of a DC's colour
 abbrev pub packed_of : Colorref → ℕ

@@ -1,9 +1,8 @@
 -- Moves and lines: each DC has a current position, which a move sets and from which a line is drawn.
-use Rattle.std.specs.Prelude.{Bool, cond, [], ◌∷◌, ℕ}
+use Rattle.std.specs.Prelude.{Bool, cond, [], ◌∷◌, ℕ, Option, Some, None}
+use Rattle.gdi.specs.declared.Spot.{Spot}
 use Rattle.gdi.specs.declared.GdiState.{GdiState}
 use Rattle.gdi.specs.declared.Dc.{Dc}
-use Rattle.gdi.specs.declared.DcFound.{DcFound}
-use Rattle.gdi.specs.declared.DcFound.TheVariants.{Is, Absent}
 use Rattle.gdi.specs.Record.{is_position}
 use Rattle.gdi.specs.Updates.{with_dc, with_position}
 use Rattle.gdi.specs.Lookup.{dc_of}
@@ -21,9 +20,9 @@ abbrev pub position_of : Dc → Point
 position_of d = record { x = d.pos_x; y = d.pos_y }
 
 -- the record with a DC moved to a point; the last argument is what the lookup of the DC found
-abbrev pub moved_at : GdiState → (dc : ℕ) → Point → DcFound → GdiState
-moved_at b dc to (Is p d) = with_dc b dc p (with_position d to.x to.y)
-moved_at b dc to Absent = b
+abbrev pub moved_at : GdiState → (dc : ℕ) → Point → Option (Spot × Dc) → GdiState
+moved_at b dc to (Some (p, d)) = with_dc b dc p (with_position d to.x to.y)
+moved_at b dc to None = b
 
 abbrev pub moved_to : GdiState → (dc : ℕ) → Point → GdiState
 moved_to b dc to = moved_at b dc to (dc_of b dc)
@@ -36,9 +35,9 @@ unless_far b to p = cond (is_position to.x to.y) p (refuse 11 b)
 abbrev pub move_on : GdiState → (dc : ℕ) → Point → Dc → Plan
 move_on b dc to d = record_only (moved_to b dc to) (placed (position_of d))
 
-abbrev pub move_at : GdiState → (dc : ℕ) → Point → DcFound → Plan
-move_at b dc to (Is p d) = unless_far b to (move_on b dc to d)
-move_at b dc to Absent = refuse 1 b
+abbrev pub move_at : GdiState → (dc : ℕ) → Point → Option (Spot × Dc) → Plan
+move_at b dc to (Some (p, d)) = unless_far b to (move_on b dc to d)
+move_at b dc to None = refuse 1 b
 
 -- 1 if there is no such DC, then 11
 unfoldable pub move_to : GdiState → (dc : ℕ) → Point → Plan

@@ -1,13 +1,10 @@
 -- Select: an object is selected into a DC.
-use Rattle.std.specs.Prelude.{Bool, true, false, cond, ℕ}
+use Rattle.std.specs.Prelude.{Bool, true, false, cond, ℕ, Option, Some, None}
+use Rattle.gdi.specs.declared.Spot.{Spot}
 use Rattle.gdi.specs.declared.GdiState.{GdiState}
 use Rattle.gdi.specs.declared.Dc.{Dc}
 use Rattle.gdi.specs.declared.Kind.{Kind}
 use Rattle.gdi.specs.declared.Kind.TheVariants.{Bitmap, Brush, Pen, Font, Other}
-use Rattle.gdi.specs.declared.SelectedBitmap.{SelectedBitmap}
-use Rattle.gdi.specs.declared.SelectedBitmap.TheVariants.{Unset, Chosen}
-use Rattle.gdi.specs.declared.DcFound.{DcFound}
-use Rattle.gdi.specs.declared.DcFound.TheVariants.{Is, Absent}
 use Rattle.gdi.specs.Stock.{stock_bitmap}
 use Rattle.gdi.specs.Updates.{with_dc, with_bitmap, with_brush, with_pen, with_font}
 use Rattle.gdi.specs.Lookup.{dc_of, kind_of}
@@ -23,9 +20,9 @@ select_in d h Font = with_font d h
 select_in d h Other = d
 
 -- the handle of the selected bitmap; before a first selection it is the stock bitmap's
-abbrev pub bitmap_or : SelectedBitmap → ℕ
-bitmap_or Unset = stock_bitmap
-bitmap_or (Chosen h) = h
+abbrev pub bitmap_or : Option ℕ → ℕ
+bitmap_or None = stock_bitmap
+bitmap_or (Some h) = h
 
 -- the handle of this kind that the DC has selected
 abbrev pub selected_of : Dc → Kind → ℕ
@@ -44,9 +41,9 @@ is_other Font = false
 is_other Other = true
 
 -- the plan for what the lookup of the DC found
-abbrev pub select_at : GdiState → (dc h : ℕ) → Kind → DcFound → Plan
-select_at b dc h k (Is p d) = record_only (with_dc b dc p (select_in d h k)) (answered (selected_of d k))
-select_at b dc h k Absent = record_only b (answered 0)
+abbrev pub select_at : GdiState → (dc h : ℕ) → Kind → Option (Spot × Dc) → Plan
+select_at b dc h k (Some (p, d)) = record_only (with_dc b dc p (select_in d h k)) (answered (selected_of d k))
+select_at b dc h k None = record_only b (answered 0)
 
 -- 0 if the object is absent or a DC, or the DC is absent; else the previous handle of that kind
 unfoldable pub select_into : GdiState → (dc h : ℕ) → Plan

@@ -1,19 +1,18 @@
 -- Settings: one field of one DC.
-use Rattle.std.specs.Prelude.{Bool, ℕ}
+use Rattle.std.specs.Prelude.{Bool, ℕ, Option, Some, None}
 use Rattle.color.specs.declared.Colorref.{Colorref}
+use Rattle.gdi.specs.declared.Spot.{Spot}
 use Rattle.gdi.specs.declared.GdiState.{GdiState}
 use Rattle.gdi.specs.declared.Dc.{Dc}
-use Rattle.gdi.specs.declared.DcFound.{DcFound}
-use Rattle.gdi.specs.declared.DcFound.TheVariants.{Is, Absent}
 use Rattle.gdi.specs.Lookup.{dc_of}
 use Rattle.gdi.specs.Updates.{with_dc, with_text_color, with_text_align, with_bk_color, with_bk_mode}
 use Rattle.plan.specs.Answer.{Parts, answered, flagged}
 use Rattle.plan.specs.Plan.{Plan, record_only, refuse}
 
 -- the plan for what the lookup of the DC found
-abbrev pub setting_at : (old : Dc → Parts) (new : Dc → Dc) → GdiState → ℕ → DcFound → Plan
-setting_at old new b dc (Is p d) = record_only (with_dc b dc p (new d)) (old d)
-setting_at old new b dc Absent = refuse 1 b
+abbrev pub setting_at : (old : Dc → Parts) (new : Dc → Dc) → GdiState → ℕ → Option (Spot × Dc) → Plan
+setting_at old new b dc (Some (p, d)) = record_only (with_dc b dc p (new d)) (old d)
+setting_at old new b dc None = refuse 1 b
 
 -- a setting changes one field of one DC record and answers the old value; 1 if there is no such DC
 unfoldable pub setting : (old : Dc → Parts) (new : Dc → Dc) → GdiState → ℕ → Plan

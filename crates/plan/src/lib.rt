@@ -90,11 +90,9 @@ pub enum Call {
     },
 }
 
-// What a call answers.
+// What an accepted call answers.
 #[derive(Clone, Copy)]
 pub enum Answer {
-    // The number of the refusal.
-    Refused(u32),
     // The new object's handle; for a selection the handle selected before, or 0 if the call selected nothing.
     Handle(u32),
     // Whether the handle named an object: a created one, now deleted, or a stock object.

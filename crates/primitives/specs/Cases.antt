@@ -3,7 +3,6 @@ use Rattle.std.specs.Prelude.{◌≡◌, List, ◌⊎◌, ℕ, ◌+◌, ◌*◌,
 use Rattle.primitives.specs.declared.line.Reply.{Reply}
 use Rattle.primitives.specs.declared.memory.Sides.{Sides}
 use Rattle.primitives.specs.declared.memory.State.{State}
-use Rattle.primitives.specs.declared.memory.Answer.{Answer}
 
 -- sides of at most 4,096
 pub record Limited (s : Sides) : Type 0 where
@@ -23,14 +22,9 @@ pub record Sound (s : State) : Type 0 where
 
 -- a reply to a case at the front of c: the case lies in c, and the line has room for its end
 pub record Fitting (c : List ℕ) (r : Reply) : Type 0 where
+  pub some : 0 < r.size
   pub size : r.size ≤ length c
-  pub room : r.line.len < 160
-
--- the same of an answer
-pub record Answered (c : List ℕ) (a : Answer) : Type 0 where
-  pub size : a.size ≤ length c
-  pub room : a.line.len < 160
-  pub state : Sound a.state
+  pub room : length r.line < 160
 
 -- two surfaces that fit the memory one after the other, and how many words they have
 pub record Paired (dst src : Sides) (n src-n : ℕ) : Type 0 where

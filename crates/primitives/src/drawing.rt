@@ -1,11 +1,13 @@
 // Cases 11, 12 and 14 to 17: the operations on lent bytes, refused or not.
-ghost use Rattle.std.specs.Prelude.{◌≡◌, ◌+◌, ◌*◌, ◌≤◌, ◌<◌, length};
+ghost use Rattle.std.specs.Prelude.{◌≡◌, ◌+◌, ◌*◌, ◌≤◌, ◌<◌, length, IfSome};
 ghost use Rattle.primitives.specs.Cases.{Fitting};
 
 use crate::line::Reply;
 use crate::memory::Lent;
 use crate::{line, memory};
 use color::Rgb565;
+use refusals::Refusal;
+use surface::{Advance, Drawn};
 
 // The most units that a case has.
 const MOST_UNITS: usize = 65_600;
@@ -34,10 +36,10 @@ pub struct Route {
 }
 
 // The reply to the case of this byte at the front of c.
-pub fn work_out(kind: u8, c: &[u8], mem: &mut [u8], lent: Lent) -> Reply
+pub fn work_out(kind: u8, c: &[u8], mem: &mut [u8], lent: Lent) -> Option<Reply>
     requires mem_len { length mem.old ≡ 153600 }
     requires len_bound { lent.len ≤ 153600 }
-    ensures { Fitting c.now result }
+    ensures { IfSome result (λ r. Fitting c.now r) }
 {
     match kind {
         0x11 => pattern_fill_case(c, mem, lent),
@@ -46,15 +48,16 @@ pub fn work_out(kind: u8, c: &[u8], mem: &mut [u8], lent: Lent) -> Reply
         0x15 => fill_case(c, mem, lent),
         0x16 => outline_case(c, mem, lent),
         0x17 => text_case(c, mem, lent),
-        _ => line::bad(),
+        _ => None,
     }
 }
 
 // The reply to a case that was drawn or refused.
-fn drawn_reply(kind: u8, size: usize, drawn: surface::Drawn, mem: &[u8], lent: Lent) -> Reply
+fn drawn_reply(kind: u8, size: usize, drawn: Result<bool, Refusal>, mem: &[u8], lent: Lent) -> Reply
     requires { lent.len ≤ length mem.now }
-    ensures { (result.size ≡ size) × (result.line.len ≡ 16) }
+    ensures { (result.size ≡ size) × (length result.line ≡ 16) }
 {
+    let drawn = Drawn::from(drawn);
     let refusal = (drawn.refusal % 256) as u8;
     let l = line::start(kind)
         .space()
@@ -94,29 +97,28 @@ pub fn read_route(c: &[u8], at: usize) -> Route
 }
 
 // Case 11: a pattern fill.
-fn pattern_fill_case(c: &[u8], mem: &mut [u8], lent: Lent) -> Reply
+fn pattern_fill_case(c: &[u8], mem: &mut [u8], lent: Lent) -> Option<Reply>
     requires mem_len { length mem.old ≡ 153600 }
     requires len_bound { lent.len ≤ 153600 }
-    ensures { Fitting c.now result }
+    ensures { IfSome result (λ r. Fitting c.now r) }
 {
     if c.len() < 23 {
-        return line::bad();
+        return None;
     }
     let drawn = pattern_filled(c, mem, lent);
-    drawn_reply(0x11, 23, drawn, mem, lent)
+    Some(drawn_reply(0x11, 23, drawn, mem, lent))
 }
 
 // The pattern fill that case 11 names.
-fn pattern_filled(c: &[u8], mem: &mut [u8], lent: Lent) -> surface::Drawn
+fn pattern_filled(c: &[u8], mem: &mut [u8], lent: Lent) -> Result<bool, Refusal>
     requires in_bounds { 23 ≤ length c.now }
     requires len_in_bounds { lent.len ≤ length mem.old }
 {
     let a = read_area(c);
     let pattern = Rgb565(bigendian::read_u16(c, 17));
     let code = bigendian::read_u32(c, 19);
-    let len = lent.len;
     fill::fill_rect_rop(
-        &mut mem[0..len],
+        &mut mem[..lent.len],
         lent.w,
         lent.h,
         a.x,
@@ -129,72 +131,88 @@ fn pattern_filled(c: &[u8], mem: &mut [u8], lent: Lent) -> surface::Drawn
 }
 
 // Case 15: a fill.
-fn fill_case(c: &[u8], mem: &mut [u8], lent: Lent) -> Reply
+fn fill_case(c: &[u8], mem: &mut [u8], lent: Lent) -> Option<Reply>
     requires mem_len { length mem.old ≡ 153600 }
     requires len_bound { lent.len ≤ 153600 }
-    ensures { Fitting c.now result }
+    ensures { IfSome result (λ r. Fitting c.now r) }
 {
     if c.len() < 19 {
-        return line::bad();
+        return None;
     }
     let drawn = filled(c, mem, lent);
-    drawn_reply(0x15, 19, drawn, mem, lent)
+    Some(drawn_reply(0x15, 19, drawn, mem, lent))
 }
 
 // The fill that case 15 names.
-fn filled(c: &[u8], mem: &mut [u8], lent: Lent) -> surface::Drawn
+fn filled(c: &[u8], mem: &mut [u8], lent: Lent) -> Result<bool, Refusal>
     requires in_bounds { 19 ≤ length c.now }
     requires len_in_bounds { lent.len ≤ length mem.old }
 {
     let a = read_area(c);
     let color = Rgb565(bigendian::read_u16(c, 17));
-    let len = lent.len;
-    fill::fill_rect(&mut mem[0..len], lent.w, lent.h, a.x, a.y, a.w, a.h, color)
+    fill::fill_rect(
+        &mut mem[..lent.len],
+        lent.w,
+        lent.h,
+        a.x,
+        a.y,
+        a.w,
+        a.h,
+        color,
+    )
 }
 
 // Case 16: an outline.
-fn outline_case(c: &[u8], mem: &mut [u8], lent: Lent) -> Reply
+fn outline_case(c: &[u8], mem: &mut [u8], lent: Lent) -> Option<Reply>
     requires mem_len { length mem.old ≡ 153600 }
     requires len_bound { lent.len ≤ 153600 }
-    ensures { Fitting c.now result }
+    ensures { IfSome result (λ r. Fitting c.now r) }
 {
     if c.len() < 19 {
-        return line::bad();
+        return None;
     }
     let drawn = outlined(c, mem, lent);
-    drawn_reply(0x16, 19, drawn, mem, lent)
+    Some(drawn_reply(0x16, 19, drawn, mem, lent))
 }
 
 // The outline that case 16 names.
-fn outlined(c: &[u8], mem: &mut [u8], lent: Lent) -> surface::Drawn
+fn outlined(c: &[u8], mem: &mut [u8], lent: Lent) -> Result<bool, Refusal>
     requires in_bounds { 19 ≤ length c.now }
     requires len_in_bounds { lent.len ≤ length mem.old }
 {
     let a = read_area(c);
     let color = Rgb565(bigendian::read_u16(c, 17));
-    let len = lent.len;
-    outline::stroke_rect(&mut mem[0..len], lent.w, lent.h, a.x, a.y, a.w, a.h, color)
+    outline::stroke_rect(
+        &mut mem[..lent.len],
+        lent.w,
+        lent.h,
+        a.x,
+        a.y,
+        a.w,
+        a.h,
+        color,
+    )
 }
 
 // Case 12: a blit from a source of its own.
-fn blit_case(c: &[u8], mem: &mut [u8], lent: Lent) -> Reply
+fn blit_case(c: &[u8], mem: &mut [u8], lent: Lent) -> Option<Reply>
     requires mem_len { length mem.old ≡ 153600 }
     requires len_bound { lent.len ≤ 153600 }
-    ensures { Fitting c.now result }
+    ensures { IfSome result (λ r. Fitting c.now r) }
 {
     if c.len() < 45 {
-        return line::bad();
+        return None;
     }
     let n = bigendian::read_u16(c, 33) as usize;
     if LONGEST_SOURCE < n {
-        return line::bad();
+        return None;
     }
     let drawn = with_source(c, mem, lent, n);
-    drawn_reply(0x12, 45, drawn, mem, lent)
+    Some(drawn_reply(0x12, 45, drawn, mem, lent))
 }
 
 // The blit that case 12 names, from n bytes.
-fn with_source(c: &[u8], mem: &mut [u8], lent: Lent, n: usize) -> surface::Drawn
+fn with_source(c: &[u8], mem: &mut [u8], lent: Lent, n: usize) -> Result<bool, Refusal>
     requires in_bounds { (45 ≤ length c.now) × (n ≤ 8192) }
     requires len_in_bounds { lent.len ≤ length mem.old }
 {
@@ -205,7 +223,7 @@ fn with_source(c: &[u8], mem: &mut [u8], lent: Lent, n: usize) -> surface::Drawn
 }
 
 // The same on the first n bytes of `source`.
-fn blitted(c: &[u8], mem: &mut [u8], lent: Lent, source: &[u8], n: usize) -> surface::Drawn
+fn blitted(c: &[u8], mem: &mut [u8], lent: Lent, source: &[u8], n: usize) -> Result<bool, Refusal>
     requires in_bounds { (45 ≤ length c.now) × (n ≤ length source.now) }
     requires len_in_bounds { lent.len ≤ length mem.old }
 {
@@ -214,9 +232,8 @@ fn blitted(c: &[u8], mem: &mut [u8], lent: Lent, source: &[u8], n: usize) -> sur
     let src_h = bigendian::read_u32(c, 29);
     let code = bigendian::read_u32(c, 39);
     let pattern = Rgb565(bigendian::read_u16(c, 43));
-    let len = lent.len;
     blit::blit_from_bytes_rop(
-        &mut mem[0..len],
+        &mut mem[..lent.len],
         lent.w,
         lent.h,
         r.dx,
@@ -225,7 +242,7 @@ fn blitted(c: &[u8], mem: &mut [u8], lent: Lent, source: &[u8], n: usize) -> sur
         r.sy,
         r.w,
         r.h,
-        &source[0..n],
+        &source[..n],
         src_w,
         src_h,
         code,
@@ -234,20 +251,20 @@ fn blitted(c: &[u8], mem: &mut [u8], lent: Lent, source: &[u8], n: usize) -> sur
 }
 
 // Case 14: a character.
-fn char_case(c: &[u8], mem: &mut [u8], lent: Lent) -> Reply
+fn char_case(c: &[u8], mem: &mut [u8], lent: Lent) -> Option<Reply>
     requires mem_len { length mem.old ≡ 153600 }
     requires len_bound { lent.len ≤ 153600 }
-    ensures { Fitting c.now result }
+    ensures { IfSome result (λ r. Fitting c.now r) }
 {
     if c.len() < 15 {
-        return line::bad();
+        return None;
     }
     let drawn = char_drawn(c, mem, lent);
-    drawn_reply(0x14, 15, drawn, mem, lent)
+    Some(drawn_reply(0x14, 15, drawn, mem, lent))
 }
 
 // The character that case 14 names.
-fn char_drawn(c: &[u8], mem: &mut [u8], lent: Lent) -> surface::Drawn
+fn char_drawn(c: &[u8], mem: &mut [u8], lent: Lent) -> Result<bool, Refusal>
     requires in_bounds { 15 ≤ length c.now }
     requires len_in_bounds { lent.len ≤ length mem.old }
 {
@@ -255,32 +272,25 @@ fn char_drawn(c: &[u8], mem: &mut [u8], lent: Lent) -> surface::Drawn
     let y = bigendian::read_i32(c, 5);
     let ch = bigendian::read_u32(c, 9);
     let color = Rgb565(bigendian::read_u16(c, 13));
-    let len = lent.len;
-    text::draw_char(&mut mem[0..len], lent.w, lent.h, x, y, ch, color)
+    text::draw_char(&mut mem[..lent.len], lent.w, lent.h, x, y, ch, color)
 }
 
 // Case 17: a text.
-fn text_case(c: &[u8], mem: &mut [u8], lent: Lent) -> Reply
+fn text_case(c: &[u8], mem: &mut [u8], lent: Lent) -> Option<Reply>
     requires mem_len { length mem.old ≡ 153600 }
     requires len_bound { lent.len ≤ 153600 }
-    ensures { Fitting c.now result }
+    ensures { IfSome result (λ r. Fitting c.now r) }
 {
     if c.len() < 20 {
-        return line::bad();
+        return None;
     }
     let count = bigendian::read_u32(c, 11) as usize;
     let n = wide(c[19]);
-    if MOST_UNITS < count {
-        return line::bad();
-    }
-    if n == 0 {
-        return line::bad();
-    }
-    if c.len() < 20 + 2 * n {
-        return line::bad();
+    if MOST_UNITS < count || n == 0 || c.len() < 20 + 2 * n {
+        return None;
     }
     let drawn = with_units(c, mem, lent, count, n);
-    text_reply(20 + 2 * n, drawn, mem, lent)
+    Some(text_reply(20 + 2 * n, drawn, mem, lent))
 }
 
 // The number of a byte.
@@ -291,10 +301,11 @@ fn wide(n: u8) -> usize
 }
 
 // The reply to a text that was drawn or refused.
-fn text_reply(size: usize, drawn: surface::Advance, mem: &[u8], lent: Lent) -> Reply
+fn text_reply(size: usize, drawn: Result<u32, Refusal>, mem: &[u8], lent: Lent) -> Reply
     requires { lent.len ≤ length mem.now }
-    ensures { (result.size ≡ size) × (result.line.len ≡ 23) }
+    ensures { (result.size ≡ size) × (length result.line ≡ 23) }
 {
+    let drawn = Advance::from(drawn);
     let refusal = (drawn.refusal % 256) as u8;
     let l = line::start(0x17)
         .space()
@@ -308,7 +319,7 @@ fn text_reply(size: usize, drawn: surface::Advance, mem: &[u8], lent: Lent) -> R
 }
 
 // The text that case 17 names, of count units: the n of the case, repeated.
-fn with_units(c: &[u8], mem: &mut [u8], lent: Lent, count: usize, n: usize) -> surface::Advance
+fn with_units(c: &[u8], mem: &mut [u8], lent: Lent, count: usize, n: usize) -> Result<u32, Refusal>
     requires count_bound { (count ≤ 65600) × ((0 < n) × (20 + 2 * n ≤ length c.now)) }
     requires len_in_bounds { lent.len ≤ length mem.old }
 {
@@ -323,37 +334,43 @@ fn put_units(c: &[u8], units: &mut [u16], count: usize, stop: usize, n: usize)
     requires n_nonzero { (0 < n) × (20 + 2 * n ≤ length c.now) }
     requires count_in_bounds { count ≤ length units.old }
 {
-    for k in 0..count {
-        units[k] = unit(c, 20 + 2 * (k % n), k == stop);
+    for (k, unit) in units[..count].iter_mut().enumerate() {
+        *unit = unit_at(c, 20 + 2 * (k % n), k == stop);
     }
 }
 
 // The unit at `at`, or 0 where the text is to stop.
-fn unit(c: &[u8], at: usize, stopped: bool) -> u16
+fn unit_at(c: &[u8], at: usize, stopped: bool) -> u16
     requires { at + 2 ≤ length c.now }
 {
     if stopped {
-        return 0;
+        0
+    } else {
+        bigendian::read_u16(c, at)
     }
-    bigendian::read_u16(c, at)
 }
 
 // The same on the first count units of `units`.
-fn text_drawn(c: &[u8], mem: &mut [u8], lent: Lent, units: &[u16], count: usize) -> surface::Advance
+fn text_drawn(
+    c: &[u8],
+    mem: &mut [u8],
+    lent: Lent,
+    units: &[u16],
+    count: usize,
+) -> Result<u32, Refusal>
     requires in_bounds { (20 ≤ length c.now) × (count ≤ length units.now) }
     requires len_in_bounds { lent.len ≤ length mem.old }
 {
     let x = bigendian::read_i32(c, 1);
     let y = bigendian::read_i32(c, 5);
     let color = Rgb565(bigendian::read_u16(c, 9));
-    let len = lent.len;
     text::draw_str_u16(
-        &mut mem[0..len],
+        &mut mem[..lent.len],
         lent.w,
         lent.h,
         x,
         y,
-        &units[0..count],
+        &units[..count],
         color,
     )
 }

@@ -8,12 +8,12 @@ mod line;
 mod memory;
 mod within;
 
-ghost use Rattle.std.specs.Prelude.{◌≡◌, ◌<◌, length, IfOk};
-ghost use Rattle.primitives.specs.Cases.{Served, Sound, Fitting, Answered};
+ghost use Rattle.std.specs.Prelude.{◌≡◌, ◌<◌, length, IfOk, IfSome};
+ghost use Rattle.primitives.specs.Cases.{Served, Sound, Fitting};
 
 use harness::LONGEST;
 use line::Reply;
-use memory::{Answer, Sides, State};
+use memory::{Sides, State};
 use std::io;
 
 // `PRM2`
@@ -27,14 +27,6 @@ const HEADER: usize = 5;
 enum Mode {
     Answers,
     Picture,
-    Bad,
-}
-
-// How a list of cases ended, and the surface's sides then.
-#[derive(Clone, Copy)]
-struct Ended {
-    good: bool,
-    surface: Sides,
 }
 
 // Reads the script and runs it.
@@ -47,70 +39,50 @@ fn main(rt: HostRuntime) -> io::Result<()> {
 // Runs a whole script.
 fn run(rt: &impl Print, s: &[u8]) -> io::Result<()> {
     match mode_of(s) {
-        Mode::Answers => perform(rt, s, true),
-        Mode::Picture => perform(rt, s, false),
-        Mode::Bad => print_bad_script(rt),
+        Some(Mode::Answers) => perform(rt, s, true),
+        Some(Mode::Picture) => perform(rt, s, false),
+        None => print_bad_script(rt),
     }
 }
 
-// What the header says.
-fn mode_of(s: &[u8]) -> Mode {
-    if LONGEST < s.len() {
-        return Mode::Bad;
-    }
-    if s.len() < HEADER {
-        return Mode::Bad;
-    }
-    if bigendian::read_u32(s, 0) != MAGIC {
-        return Mode::Bad;
+// What the header says, unless it is bad.
+fn mode_of(s: &[u8]) -> Option<Mode> {
+    if LONGEST < s.len() || s.len() < HEADER || bigendian::read_u32(s, 0) != MAGIC {
+        return None;
     }
     match s[4] {
-        0 => Mode::Answers,
-        1 => Mode::Picture,
-        _ => Mode::Bad,
+        0 => Some(Mode::Answers),
+        1 => Some(Mode::Picture),
+        _ => None,
     }
 }
 
 // Prints the answers if they are shown, else writes the picture after a script with no bad case.
 fn perform(rt: &impl Print, s: &[u8], shown: bool) -> io::Result<()> {
     let mut mem = [0u8; 2 * memory::WORDS];
-    let ended = run_cases(rt, s, &mut mem, shown)?;
-    if shown {
-        return Ok(());
+    match run_cases(rt, s, &mut mem, shown)? {
+        Some(surface) if !shown => picture::write(rt, &mem, surface.w, surface.h),
+        _ => Ok(()),
     }
-    if ended.good {
-        return picture::write(rt, &mem, ended.surface.w, ended.surface.h);
-    }
-    Ok(())
 }
 
-// Runs case after case, and prints the answers if they are shown.
-fn run_cases(rt: &impl Print, s: &[u8], mem: &mut [u8], shown: bool) -> io::Result<Ended>
+// Runs case after case, and prints the answers if they are shown. Returns the surface's sides then, unless a case is bad.
+fn run_cases(rt: &impl Print, s: &[u8], mem: &mut [u8], shown: bool) -> io::Result<Option<Sides>>
     requires { length mem.old ≡ 153600 }
-    ensures { IfOk result (λ e. Served e.surface) }
+    ensures { IfOk result (λ ended. IfSome ended (λ sides. Served sides)) }
 {
     let mut at = HEADER;
     let mut state = memory::first();
     while at < s.len() {
-        let given = work_out(&s[at..], mem, state);
-        if given.size == 0 {
+        let Some((reply, next)) = work_out(&s[at..], mem, state) else {
             print_bad_case(rt)?;
-            return Ok(end_at(state, false));
-        }
-        line::show(rt, given.line, shown)?;
-        state = given.state;
-        at += given.size;
+            return Ok(None);
+        };
+        line::show(rt, reply.line, shown)?;
+        state = next;
+        at += reply.size;
     }
-    Ok(end_at(state, true))
-}
-
-// The end of a list of cases in this state.
-fn end_at(state: State, good: bool) -> Ended
-    requires { Sound state }
-    ensures { Served result.surface }
-{
-    let surface = state.surface;
-    Ended { good, surface }
+    Ok(Some(state.surface))
 }
 
 // The whole output for a bad script.
@@ -123,30 +95,28 @@ fn print_bad_case(rt: &impl Print) -> io::Result<()> {
     rt.write_all(b"bad case\n")
 }
 
-// The answer to the case at the front of c.
-fn work_out(c: &[u8], mem: &mut [u8], state: State) -> Answer
+// The reply to the case at the front of c, and the state after it, unless it is bad.
+fn work_out(c: &[u8], mem: &mut [u8], state: State) -> Option<(Reply, State)>
     requires c_nonzero { 0 < length c.now }
     requires mem_len { length mem.old ≡ 153600 }
     requires sound { Sound state }
-    ensures { Answered c.now result }
+    ensures { IfSome result (λ a. Fitting c.now a.0 × Sound a.1) }
 {
     match c[0] {
-        0x10 => memory::make(c, mem, state),
+        0x10 => memory::make(c, mem),
         0x18 => memory::lend(c, mem, state),
-        kind => memory::with_state(reply(kind, c, mem, state), state),
+        kind => Some((reply(kind, c, mem, state)?, state)),
     }
 }
 
-// The reply to a case that leaves the state as it is.
-fn reply(kind: u8, c: &[u8], mem: &mut [u8], state: State) -> Reply
+// The reply to a case that leaves the state as it is, unless it is bad.
+fn reply(kind: u8, c: &[u8], mem: &mut [u8], state: State) -> Option<Reply>
     requires mem_len { length mem.old ≡ 153600 }
     requires sound { Sound state }
-    ensures { Fitting c.now result }
+    ensures { IfSome result (λ r. Fitting c.now r) }
 {
-    if kind < 0x10 {
-        return colors::work_out(kind, c);
-    }
     match kind {
+        0x00..=0x0F => colors::work_out(kind, c),
         0x13 => within::blit_within(c, mem, state.surface),
         0x19 => within::blit_between(c, mem),
         _ => drawing::work_out(kind, c, mem, state.lent),

@@ -1,6 +1,6 @@
 // The memory that surfaces lie in, 153,600 bytes: the surface, what of it is lent, and cases 10 and 18, which set them.
-ghost use Rattle.std.specs.Prelude.{◌≡◌, ◌+◌, ◌*◌, ◌≤◌, length};
-ghost use Rattle.primitives.specs.Cases.{Limited, Served, Sound, Fitting, Answered};
+ghost use Rattle.std.specs.Prelude.{◌≡◌, ◌+◌, ◌*◌, ◌≤◌, length, IfSome};
+ghost use Rattle.primitives.specs.Cases.{Limited, Served, Sound, Fitting};
 
 use crate::line;
 use crate::line::Reply;
@@ -31,14 +31,6 @@ pub struct State {
     pub lent: Lent,
 }
 
-// A reply, and the state after the case.
-#[derive(Clone, Copy)]
-pub struct Answer {
-    pub size: usize,
-    pub line: Line,
-    pub state: State,
-}
-
 // The state before the first case.
 pub fn first() -> State
     ensures { Sound result }
@@ -59,37 +51,20 @@ fn surface_lent(surface: Sides, n: usize) -> State
     State { surface, lent }
 }
 
-// The answer with a reply and the state after it.
-pub fn with_state(reply: Reply, state: State) -> Answer
-    requires { Sound state }
-    ensures { (result.size ≡ reply.size) × ((result.line.len ≡ reply.line.len) × Sound result.state) }
-{
-    let line = reply.line;
-    Answer {
-        size: reply.size,
-        line,
-        state,
-    }
-}
-
 // Case 10: a new surface.
-pub fn make(c: &[u8], mem: &mut [u8], state: State) -> Answer
-    requires mem_len { length mem.old ≡ 153600 }
-    requires sound { Sound state }
-    ensures { Answered c.now result }
+pub fn make(c: &[u8], mem: &mut [u8]) -> Option<(Reply, State)>
+    requires { length mem.old ≡ 153600 }
+    ensures { IfSome result (λ a. Fitting c.now a.0 × Sound a.1) }
 {
     if c.len() < 9 {
-        return with_state(line::bad(), state);
+        return None;
     }
     let sides = read_sides(c, 1);
     let n = words_in(sides);
-    if n == 0 {
-        return with_state(line::bad(), state);
+    if n == 0 || WORDS < n {
+        return None;
     }
-    if WORDS < n {
-        return with_state(line::bad(), state);
-    }
-    with_state(new_surface(c, mem, n), surface_lent(sides, n))
+    Some((new_surface(c, mem, n), surface_lent(sides, n)))
 }
 
 // Fills the n words of case 10; its reply.
@@ -108,24 +83,23 @@ fn new_surface(c: &[u8], mem: &mut [u8], n: usize) -> Reply
 }
 
 // Case 18: other bytes and sides are lent.
-pub fn lend(c: &[u8], mem: &[u8], state: State) -> Answer
+pub fn lend(c: &[u8], mem: &[u8], state: State) -> Option<(Reply, State)>
     requires mem_len { length mem.now ≡ 153600 }
     requires sound { Sound state }
-    ensures { Answered c.now result }
+    ensures { IfSome result (λ a. Fitting c.now a.0 × Sound a.1) }
 {
     if c.len() < 13 {
-        return with_state(line::bad(), state);
+        return None;
     }
     let w = bigendian::read_u32(c, 1);
     let h = bigendian::read_u32(c, 5);
     let len = bigendian::read_u32(c, 9) as usize;
     if 2 * WORDS < len {
-        return with_state(line::bad(), state);
+        return None;
     }
     let line = with_crc(line::start(0x18), mem, len);
-    let surface = state.surface;
     let lent = Lent { w, h, len };
-    with_state(Reply { size: 13, line }, State { surface, lent })
+    Some((Reply { size: 13, line }, State { lent, ..state }))
 }
 
 // The sides of 16 bits each from `at` on. One above 4,096 is read as 0.
@@ -155,11 +129,11 @@ pub fn words_in(sides: Sides) -> usize
 
 // The line with the CRC of the first len bytes.
 pub fn with_crc(l: Line, mem: &[u8], len: usize) -> Line
-    requires len_bound { l.len ≤ 30 }
+    requires len_bound { length l ≤ 30 }
     requires len_in_bounds { len ≤ length mem.now }
-    ensures { result.len ≡ l.len + 9 }
+    ensures { length result ≡ length l + 9 }
 {
-    l.space().hex8(crc32::crc32(&mem[0..len]))
+    l.space().hex8(crc32::crc32(&mem[..len]))
 }
 
 // Fills the first n words: with 0 for the seed 0, else with the generator's words.

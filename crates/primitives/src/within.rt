@@ -1,5 +1,5 @@
 // Cases 13 and 19: blits within the memory, on one surface or between two.
-ghost use Rattle.std.specs.Prelude.{◌≡◌, ◌+◌, ◌*◌, ◌≤◌, length};
+ghost use Rattle.std.specs.Prelude.{◌≡◌, ◌+◌, ◌*◌, ◌≤◌, length, IfSome};
 ghost use Rattle.primitives.specs.Cases.{Served, Fitting, Apart, Paired};
 
 use crate::line::Reply;
@@ -9,70 +9,71 @@ use blit::Blit;
 use color::Rgb565;
 
 // Case 13: a blit within the surface.
-pub fn blit_within(c: &[u8], mem: &mut [u8], sides: Sides) -> Reply
+pub fn blit_within(c: &[u8], mem: &mut [u8], sides: Sides) -> Option<Reply>
     requires mem_len { length mem.old ≡ 153600 }
     requires served { Served sides }
-    ensures { Fitting c.now result }
+    ensures { IfSome result (λ r. Fitting c.now r) }
 {
     if c.len() < 31 {
-        return line::bad();
+        return None;
     }
     let marked = blitted(c, 1, mem, 0, sides, 0, sides);
     let line = line::start(0x13).space().flag(marked);
-    Reply {
+    Some(Reply {
         size: 31,
         line: memory::with_crc(line, mem, 2 * memory::words_in(sides)),
-    }
+    })
 }
 
 // Case 19: a blit between two surfaces, one at the start of the memory and one right behind it.
-pub fn blit_between(c: &[u8], mem: &mut [u8]) -> Reply
+pub fn blit_between(c: &[u8], mem: &mut [u8]) -> Option<Reply>
     requires { length mem.old ≡ 153600 }
-    ensures { Fitting c.now result }
+    ensures { IfSome result (λ r. Fitting c.now r) }
 {
     if c.len() < 40 {
-        return line::bad();
+        return None;
     }
     let dst = memory::read_sides(c, 2);
     let src = memory::read_sides(c, 6);
     let n = memory::words_in(dst);
     let src_n = memory::words_in(src);
-    if n == 0 {
-        return line::bad();
-    }
-    if src_n == 0 {
-        return line::bad();
-    }
-    if memory::WORDS < n + src_n {
-        return line::bad();
+    if n == 0 || src_n == 0 || memory::WORDS < n + src_n {
+        return None;
     }
     between(c, mem, dst, src, n, src_n)
 }
 
 // The same for surfaces of n and src_n words, which fit.
-fn between(c: &[u8], mem: &mut [u8], dst: Sides, src: Sides, n: usize, src_n: usize) -> Reply
+fn between(
+    c: &[u8],
+    mem: &mut [u8],
+    dst: Sides,
+    src: Sides,
+    n: usize,
+    src_n: usize,
+) -> Option<Reply>
     requires in_bounds { 40 ≤ length c.now }
     requires mem_len { length mem.old ≡ 153600 }
     requires paired { Paired dst src n src_n }
-    ensures { Fitting c.now result }
+    ensures { IfSome result (λ r. Fitting c.now r) }
 {
     match c[1] {
         0 => {
             let marked = blitted(c, 10, mem, 0, dst, n, src);
-            between_reply(marked, mem, n + src_n)
+            Some(between_reply(marked, mem, n + src_n))
         }
         1 => {
             let marked = blitted(c, 10, mem, src_n, dst, 0, src);
-            between_reply(marked, mem, n + src_n)
+            Some(between_reply(marked, mem, n + src_n))
         }
-        _ => line::bad(),
+        _ => None,
     }
 }
 
 // Case 19's reply, with the CRC of the memory's first n words.
 fn between_reply(marked: bool, mem: &[u8], n: usize) -> Reply
     requires { 2 * n ≤ length mem.now }
-    ensures { (result.size ≡ 40) × (result.line.len ≡ 13) }
+    ensures { (result.size ≡ 40) × (length result.line ≡ 13) }
 {
     let line = line::start(0x19).space().flag(marked);
     Reply {

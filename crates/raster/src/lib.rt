@@ -12,26 +12,26 @@ pub const PATCOPY_TABLE: u8 = 0xF0;
 const DSTINVERT_TABLE: u8 = 0x55;
 
 // Combines pattern and destination under a table at the n words from d on. The source operand is 0.
+#[tactic(auto, using(crate::proofs::Plain::pattern_ropped, crate::proofs::Plain::invert_ropped))]
 pub fn rop_run(mem: &mut [u8], d: usize, n: usize, table: u8, pat: u16)
     requires { 2 * (d + n) ≤ length mem.old }
     ensures { mem.new ≡ painted (between d (d + n)) (ropped table pat (λ _. 0) mem.old) mem.old }
 {
-    if table == PATCOPY_TABLE {
-        runs::fill_run(mem, d, n, pat);
-    } else if table == DSTINVERT_TABLE {
-        runs::invert_run(mem, d, n);
-    } else {
-        combine_run(mem, d, n, table, pat);
+    match table {
+        PATCOPY_TABLE => runs::fill_run(mem, d, n, pat),
+        DSTINVERT_TABLE => runs::invert_run(mem, d, n),
+        _ => combine_run(mem, d, n, table, pat),
     }
 }
 
 // The loop of rop_run for any table.
+#[tactic(auto, using(runs::proofs::Runs::paint_first, runs::proofs::Runs::paint_next, runs::proofs::Runs::next_kept))]
 fn combine_run(mem: &mut [u8], d: usize, n: usize, table: u8, pat: u16)
     requires { 2 * (d + n) ≤ length mem.old }
     ensures { mem.new ≡ painted (between d (d + n)) (ropped table pat (λ _. 0) mem.old) mem.old }
 {
-    for k in 0..n {
-        let old = words::word_at(mem, d + k);
-        words::set_word(mem, d + k, rop3::apply_table(table, pat, 0, old));
+    for i in d..d + n {
+        let old = words::word_at(mem, i);
+        words::set_word(mem, i, rop3::apply_table(table, pat, 0, old));
     }
 }

@@ -8,6 +8,7 @@ ghost use Rattle.raster_from.specs.Inner.{run_from};
 const SRCCOPY_TABLE: u8 = 0xCC;
 
 // Combines pattern, the words of src from s on, and destination under a table at the n words of dst from d on.
+#[tactic(auto, using(raster::proofs::Plain::copy_ropped))]
 pub fn rop_run_from(dst: &mut [u8], src: &[u8], d: usize, s: usize, n: usize, table: u8, pat: u16)
     requires { (2 * (d + n) ≤ length dst.old) × (2 * (s + n) ≤ length src.now) }
     ensures { dst.new ≡ run_from src.now d s n table pat dst.old }
@@ -21,6 +22,7 @@ pub fn rop_run_from(dst: &mut [u8], src: &[u8], d: usize, s: usize, n: usize, ta
 
 // The same with both in one memory: the two may overlap, and the source words are those before the call. A row has at most 4,096
 // words.
+#[tactic(auto, using(raster::proofs::Plain::copy_ropped))]
 pub fn rop_run_within(mem: &mut [u8], d: usize, s: usize, n: usize, table: u8, pat: u16)
     requires { (n ≤ 4096) × ((2 * (d + n) ≤ length mem.old) × (2 * (s + n) ≤ length mem.old)) }
     ensures { mem.new ≡ run_from mem.old d s n table pat mem.old }
@@ -33,6 +35,7 @@ pub fn rop_run_within(mem: &mut [u8], d: usize, s: usize, n: usize, table: u8, p
 }
 
 // The loop of rop_run_from for any table.
+#[tactic(auto, using(runs::proofs::Runs::paint_first, runs::proofs::Runs::paint_next, runs::proofs::Runs::next_kept))]
 fn combine_run_from(dst: &mut [u8], src: &[u8], d: usize, s: usize, n: usize, table: u8, pat: u16)
     requires { (2 * (d + n) ≤ length dst.old) × (2 * (s + n) ≤ length src.now) }
     ensures { dst.new ≡ run_from src.now d s n table pat dst.old }
@@ -44,7 +47,7 @@ fn combine_run_from(dst: &mut [u8], src: &[u8], d: usize, s: usize, n: usize, ta
     }
 }
 
-// The loop of rop_run_within for any table: the source row is copied to a buffer first.
+// The loop of rop_run_within for any table: the source row is copied to a buffer first, an array, since the library has no heap.
 fn combine_run_within(mem: &mut [u8], d: usize, s: usize, n: usize, table: u8, pat: u16)
     requires { (n ≤ 4096) × ((2 * (d + n) ≤ length mem.old) × (2 * (s + n) ≤ length mem.old)) }
     ensures { mem.new ≡ run_from mem.old d s n table pat mem.old }

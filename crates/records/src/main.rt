@@ -3,7 +3,6 @@
 #![tactic(auto)]
 
 mod read;
-mod same;
 mod tried;
 
 ghost use Rattle.std.specs.Prelude.{◌≡◌, length};
@@ -11,7 +10,7 @@ ghost use Rattle.numbers.specs.Layout.{record_size};
 
 use harness::LONGEST;
 use std::io;
-use tried::Verdict;
+use tried::{Fault, Verdict};
 
 // `REC2`
 const MAGIC: u32 = 0x5245_4332;
@@ -35,26 +34,20 @@ fn run(rt: &impl Print, s: &[u8]) -> io::Result<()> {
 
 // Returns whether a stream is not too long and begins with the magic number.
 fn begins_well(s: &[u8]) -> bool {
-    if LONGEST < s.len() {
-        return false;
-    }
-    if s.len() < 4 {
-        return false;
-    }
-    bigendian::read_u32(s, 0) == MAGIC
+    4 <= s.len() && s.len() <= LONGEST && bigendian::read_u32(s, 0) == MAGIC
 }
 
-// Prints a line for each record, whose numbers are put into `numbers`; a bad record ends the list.
+// Prints a line for each record, whose numbers are put into `numbers`; a bad record ends the list. The loop goes from byte to byte,
+// since a record says where the next one begins.
 fn try_all(rt: &impl Print, s: &[u8], numbers: &mut [u32]) -> io::Result<()>
     requires { length numbers.old ≡ record_size }
 {
     let mut at: usize = 4;
     let mut i: u64 = 0;
     while at < s.len() {
-        let case = read::record(s, at, numbers);
-        if case.bad {
+        let Some(case) = read::record(s, at, numbers) else {
             return output::empty().text(b"bad record").print(rt);
-        }
+        };
         print_verdict(rt, i, tried::on_memories(numbers, case))?;
         at = case.next;
         i += 1;
@@ -66,8 +59,9 @@ fn try_all(rt: &impl Print, s: &[u8], numbers: &mut [u32]) -> io::Result<()>
 fn print_verdict(rt: &impl Print, i: u64, verdict: Verdict) -> io::Result<()> {
     let line = output::empty().text(b"record ").decimal(i).space();
     match verdict {
-        Verdict::Number(no) => line.decimal(no as u64).print(rt),
-        Verdict::Changed => line.text(b"changed").print(rt),
-        Verdict::Divided => line.text(b"divided").print(rt),
+        Ok(None) => line.decimal(0).print(rt),
+        Ok(Some(refusal)) => line.decimal(u64::from(refusal.number())).print(rt),
+        Err(Fault::Changed) => line.text(b"changed").print(rt),
+        Err(Fault::Divided) => line.text(b"divided").print(rt),
     }
 }

@@ -1,10 +1,10 @@
 // Device records as bytes, numbers most significant byte first, put into a record's numbers.
-ghost use Rattle.std.specs.Prelude.{◌≡◌, ◌≤◌, ◌<◌, ◌+◌, length};
+ghost use Rattle.std.specs.Prelude.{◌≡◌, ◌≤◌, ◌<◌, ◌+◌, length, IfSome};
 ghost use Rattle.numbers.specs.Layout.{record_size};
-ghost use Rattle.records.specs.Records.{SlotsWithin, SlotWithin, Taken};
+ghost use Rattle.records.specs.Records.{NextWithin, Taken};
 
 use color::Colorref;
-use gdi::{Bitmap, Brush, Dc, DcSurface, Font, GdiObject, MAX_OBJECTS, Pen, SelectedBitmap, Slot};
+use gdi::{Bitmap, Brush, Dc, DcSurface, Font, GdiObject, MAX_OBJECTS, Pen, Slot};
 use numbers::{SCREEN, SLOT, SLOTS};
 
 // The longest memory that is lent.
@@ -13,27 +13,12 @@ pub const MOST_LENT: usize = 65_536;
 // The bytes before a record's slots.
 const HEAD: usize = 56;
 
-// The lengths of the memories lent with a record, and the byte behind it; or a bad one.
+// The lengths of the memories lent with a record, and the byte behind it.
 #[derive(Clone, Copy)]
 pub struct Case {
-    pub bad: bool,
     pub panel_lent: usize,
     pub store_lent: usize,
     pub next: usize,
-}
-
-// The byte behind a record's slots; or a bad one.
-#[derive(Clone, Copy)]
-pub struct Slots {
-    pub bad: bool,
-    pub next: usize,
-}
-
-// A slot and the byte behind it, or none.
-#[derive(Clone, Copy)]
-pub enum SlotRead {
-    Bad,
-    Is(Slot, usize),
 }
 
 // A DC's colours and settings.
@@ -47,69 +32,42 @@ struct Settings {
     transparent: bool,
 }
 
-// Puts the numbers of the record at `at`.
-pub fn record(s: &[u8], at: usize, numbers: &mut [u32]) -> Case
+// Puts the numbers of the record at `at`, unless it is bad.
+pub fn record(s: &[u8], at: usize, numbers: &mut [u32]) -> Option<Case>
     requires { (at < length s.now) × (length numbers.old ≡ record_size) }
-    ensures { Taken (at + 1) (length s.now) result }
+    ensures { IfSome result (λ c. Taken (at + 1) (length s.now) c) }
 {
-    let n = s.len();
-    if n - at < HEAD {
-        return bad(n);
+    if s.len() - at < HEAD || s[at + 36] > 1 || s[at + 37] > 1 {
+        return None;
     }
     let given = bigendian::read_u16(s, at + 54) as usize;
-    if s[at + 36] > 1 {
-        return bad(n);
-    }
-    if s[at + 37] > 1 {
-        return bad(n);
-    }
     if given > MAX_OBJECTS {
-        return bad(n);
+        return None;
     }
     put_head(s, at, numbers);
     put_vacant(numbers);
-    let slots = put_slots(s, at + HEAD, given, numbers);
-    if slots.bad {
-        return bad(n);
-    }
-    lent(s, slots.next)
-}
-
-// A bad record: it takes the rest of a stream of n bytes.
-fn bad(n: usize) -> Case
-    ensures { Taken n n result }
-{
-    Case {
-        bad: true,
-        panel_lent: 0,
-        store_lent: 0,
-        next: n,
-    }
+    let next = put_slots(s, at + HEAD, given, numbers)?;
+    lent(s, next)
 }
 
 // The lent lengths at `at`.
-fn lent(s: &[u8], at: usize) -> Case
+fn lent(s: &[u8], at: usize) -> Option<Case>
     requires { at ≤ length s.now }
-    ensures { Taken at (length s.now) result }
+    ensures { IfSome result (λ c. Taken at (length s.now) c) }
 {
-    let n = s.len();
-    if n - at < 8 {
-        return bad(n);
+    if s.len() - at < 8 {
+        return None;
     }
     let panel_lent = bigendian::read_u32(s, at) as usize;
     let store_lent = bigendian::read_u32(s, at + 4) as usize;
-    if panel_lent > MOST_LENT {
-        return bad(n);
+    if panel_lent > MOST_LENT || store_lent > MOST_LENT {
+        return None;
     }
-    if store_lent > MOST_LENT {
-        return bad(n);
-    }
-    Case {
-        bad: false,
+    Some(Case {
         panel_lent,
         store_lent,
         next: at + 8,
-    }
+    })
 }
 
 // Puts the numbers in front of a record's slots, read from `at` on.
@@ -158,10 +116,11 @@ fn put_flags(s: &[u8], at: usize, numbers: &mut [u32])
 fn read_most(s: &[u8], at: usize) -> u32
     requires { at + 8 ≤ length s.now }
 {
-    if bigendian::read_u32(s, at) != 0 {
-        return 0xFFFF_FFFF;
+    if bigendian::read_u32(s, at) == 0 {
+        bigendian::read_u32(s, at + 4)
+    } else {
+        0xFFFF_FFFF
     }
-    bigendian::read_u32(s, at + 4)
 }
 
 // Puts a vacant slot in each place.
@@ -182,31 +141,27 @@ fn put_slot(numbers: &mut [u32], k: usize, slot: Slot)
     encode::put_slot(&mut numbers[p..e], slot);
 }
 
-// Puts the n slots from `at` on as the first ones.
-fn put_slots(s: &[u8], at: usize, n: usize, numbers: &mut [u32]) -> Slots
+// Puts the n slots from `at` on as the first ones. Returns the byte behind them, unless one is bad.
+fn put_slots(s: &[u8], at: usize, n: usize, numbers: &mut [u32]) -> Option<usize>
     requires { (at ≤ length s.now) × ((n ≤ 256) × (length numbers.old ≡ record_size)) }
-    ensures { SlotsWithin at (length s.now) result }
+    ensures { IfSome result (λ next. NextWithin at (length s.now) next) }
 {
     let mut next = at;
     for k in 0..n {
-        match read_slot(s, next) {
-            SlotRead::Bad => return Slots { bad: true, next },
-            SlotRead::Is(slot, end) => {
-                put_slot(numbers, k, slot);
-                next = end;
-            }
-        }
+        let (slot, end) = read_slot(s, next)?;
+        put_slot(numbers, k, slot);
+        next = end;
     }
-    Slots { bad: false, next }
+    Some(next)
 }
 
-// The slot at `at`: handle, kind, fields.
-fn read_slot(s: &[u8], at: usize) -> SlotRead
+// The slot at `at`, handle, kind, fields, and the byte behind it; none if it is bad.
+fn read_slot(s: &[u8], at: usize) -> Option<(Slot, usize)>
     requires { at ≤ length s.now }
-    ensures { SlotWithin at (length s.now) result }
+    ensures { IfSome result (λ r. NextWithin at (length s.now) r.1) }
 {
     if s.len() - at < 5 {
-        return SlotRead::Bad;
+        return None;
     }
     match s[at + 4] {
         0 => dc_slot(s, at),
@@ -214,30 +169,21 @@ fn read_slot(s: &[u8], at: usize) -> SlotRead
         2 => brush_slot(s, at),
         3 => pen_slot(s, at),
         4 => font_slot(s, at),
-        _ => SlotRead::Bad,
+        _ => None,
     }
 }
 
 // The slot of a DC at `at`.
-fn dc_slot(s: &[u8], at: usize) -> SlotRead
+fn dc_slot(s: &[u8], at: usize) -> Option<(Slot, usize)>
     requires { at ≤ length s.now }
-    ensures { SlotWithin at (length s.now) result }
+    ensures { IfSome result (λ r. NextWithin at (length s.now) r.1) }
 {
-    if s.len() - at < 52 {
-        return SlotRead::Bad;
-    }
-    if s[at + 5] > 1 {
-        return SlotRead::Bad;
-    }
-    if s[at + 6] > 1 {
-        return SlotRead::Bad;
-    }
-    if s[at + 43] > 1 {
-        return SlotRead::Bad;
+    if s.len() - at < 52 || s[at + 5] > 1 || s[at + 6] > 1 || s[at + 43] > 1 {
+        return None;
     }
     let handle = bigendian::read_u32(s, at);
     let object = GdiObject::Dc(read_dc(s, at));
-    SlotRead::Is(Slot { handle, object }, at + 52)
+    Some((Slot { handle, object }, at + 52))
 }
 
 // The DC whose slot is at `at`.
@@ -281,29 +227,24 @@ fn read_settings(s: &[u8], at: usize) -> Settings
 // What a DC paints, by its flag.
 fn surface_of(flag: u8) -> DcSurface {
     if flag == 0 {
-        return DcSurface::Screen;
+        DcSurface::Screen
+    } else {
+        DcSurface::Memory
     }
-    DcSurface::Memory
 }
 
 // A DC's bitmap, by its flag.
-fn bitmap_of(flag: u8, handle: u32) -> SelectedBitmap {
-    if flag == 0 {
-        return SelectedBitmap::Unset;
-    }
-    SelectedBitmap::Chosen(handle)
+fn bitmap_of(flag: u8, handle: u32) -> Option<u32> {
+    if flag == 0 { None } else { Some(handle) }
 }
 
 // The slot of a bitmap at `at`.
-fn bitmap_slot(s: &[u8], at: usize) -> SlotRead
+fn bitmap_slot(s: &[u8], at: usize) -> Option<(Slot, usize)>
     requires { at ≤ length s.now }
-    ensures { SlotWithin at (length s.now) result }
+    ensures { IfSome result (λ r. NextWithin at (length s.now) r.1) }
 {
-    if s.len() - at < 14 {
-        return SlotRead::Bad;
-    }
-    if s[at + 13] > 1 {
-        return SlotRead::Bad;
+    if s.len() - at < 14 || s[at + 13] > 1 {
+        return None;
     }
     let handle = bigendian::read_u32(s, at);
     let object = GdiObject::Bitmap(Bitmap {
@@ -311,51 +252,51 @@ fn bitmap_slot(s: &[u8], at: usize) -> SlotRead
         height: bigendian::read_u32(s, at + 9),
         host_dirty: s[at + 13] == 1,
     });
-    SlotRead::Is(Slot { handle, object }, at + 14)
+    Some((Slot { handle, object }, at + 14))
 }
 
 // The slot of a brush at `at`.
-fn brush_slot(s: &[u8], at: usize) -> SlotRead
+fn brush_slot(s: &[u8], at: usize) -> Option<(Slot, usize)>
     requires { at ≤ length s.now }
-    ensures { SlotWithin at (length s.now) result }
+    ensures { IfSome result (λ r. NextWithin at (length s.now) r.1) }
 {
     if s.len() - at < 9 {
-        return SlotRead::Bad;
+        return None;
     }
     let handle = bigendian::read_u32(s, at);
     let object = GdiObject::Brush(Brush {
         color: Colorref(bigendian::read_u32(s, at + 5)),
     });
-    SlotRead::Is(Slot { handle, object }, at + 9)
+    Some((Slot { handle, object }, at + 9))
 }
 
 // The slot of a pen at `at`.
-fn pen_slot(s: &[u8], at: usize) -> SlotRead
+fn pen_slot(s: &[u8], at: usize) -> Option<(Slot, usize)>
     requires { at ≤ length s.now }
-    ensures { SlotWithin at (length s.now) result }
+    ensures { IfSome result (λ r. NextWithin at (length s.now) r.1) }
 {
     if s.len() - at < 13 {
-        return SlotRead::Bad;
+        return None;
     }
     let handle = bigendian::read_u32(s, at);
     let object = GdiObject::Pen(Pen {
         color: Colorref(bigendian::read_u32(s, at + 5)),
         width: bigendian::read_u32(s, at + 9),
     });
-    SlotRead::Is(Slot { handle, object }, at + 13)
+    Some((Slot { handle, object }, at + 13))
 }
 
 // The slot of a font at `at`.
-fn font_slot(s: &[u8], at: usize) -> SlotRead
+fn font_slot(s: &[u8], at: usize) -> Option<(Slot, usize)>
     requires { at ≤ length s.now }
-    ensures { SlotWithin at (length s.now) result }
+    ensures { IfSome result (λ r. NextWithin at (length s.now) r.1) }
 {
     if s.len() - at < 9 {
-        return SlotRead::Bad;
+        return None;
     }
     let handle = bigendian::read_u32(s, at);
     let object = GdiObject::Font(Font {
         height: bigendian::read_i32(s, at + 5),
     });
-    SlotRead::Is(Slot { handle, object }, at + 9)
+    Some((Slot { handle, object }, at + 9))
 }

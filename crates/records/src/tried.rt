@@ -2,11 +2,12 @@
 ghost use Rattle.std.specs.Prelude.{◌≡◌, ◌≤◌, length};
 ghost use Rattle.numbers.specs.Layout.{record_size};
 
+use crate::read;
 use crate::read::Case;
-use crate::{read, same};
 use color::{Colorref, Rgb565};
 use gdi::{GDI_HANDLE_BASE, GDI_SCREEN_DC, STOCK_GRAY_BRUSH};
 use plan::{Answer, Area, Call, Point};
+use refusals::Refusal;
 
 // The number of tries: each of the twenty calls, and blit with a second code.
 const TRIES: u8 = 21;
@@ -14,16 +15,18 @@ const TRIES: u8 = 21;
 // The units of the text.
 const UNITS: [u16; 3] = [0x52, 0x41, 0x56];
 
-// How the calls refuse a record: with 9, with 8, or 0 for neither; a refused call changed something; the calls do not agree.
+// How all calls refuse a record: with 9, with 8, or with neither; or what went wrong.
+pub type Verdict = Result<Option<Refusal>, Fault>;
+
+// A refused call changed something; the calls do not agree.
 #[derive(Clone, Copy)]
-pub enum Verdict {
-    Number(u32),
+pub enum Fault {
     Changed,
     Divided,
 }
 
 // The CRCs of two memories.
-#[derive(Clone, Copy)]
+#[derive(Clone, Copy, PartialEq, Eq)]
 struct Crcs {
     panel: u32,
     store: u32,
@@ -44,12 +47,10 @@ fn on_parts(numbers: &[u32], case: Case, panel: &mut [u8], store: &mut [u8]) -> 
     requires numbers_len { length numbers.now ≡ record_size }
     requires panel_lent_in_bounds { (case.panel_lent ≤ length panel.old) × (case.store_lent ≤ length store.old) }
 {
-    let panel_lent = case.panel_lent;
-    let store_lent = case.store_lent;
     by_all(
         numbers,
-        &mut panel[0..panel_lent],
-        &mut store[0..store_lent],
+        &mut panel[..case.panel_lent],
+        &mut store[..case.store_lent],
     )
 }
 
@@ -60,27 +61,13 @@ fn by_all(numbers: &[u32], panel: &mut [u8], store: &mut [u8]) -> Verdict
     harness::fill(panel, 0, 1);
     harness::fill(store, 0, 1);
     let was = crcs_of(panel, store);
-    let first = by_one(numbers, 0, was, panel, store);
-    let Verdict::Number(no) = first else {
-        return first;
-    };
-    by_others(numbers, no, was, panel, store)
-}
-
-// The same, if the first call is refused with this number.
-fn by_others(numbers: &[u32], no: u32, was: Crcs, panel: &mut [u8], store: &mut [u8]) -> Verdict
-    requires { length numbers.now ≡ record_size }
-{
+    let first = by_one(numbers, 0, was, panel, store)?;
     for k in 1u8..TRIES {
-        let next = by_one(numbers, k, was, panel, store);
-        let Verdict::Number(other) = next else {
-            return next;
-        };
-        if other != no {
-            return Verdict::Divided;
+        if by_one(numbers, k, was, panel, store)? != first {
+            return Err(Fault::Divided);
         }
     }
-    Verdict::Number(no)
+    Ok(first)
 }
 
 // How try k refuses a copy of the record. The filled memories have these CRCs.
@@ -88,7 +75,7 @@ fn by_one(numbers: &[u32], k: u8, was: Crcs, panel: &mut [u8], store: &mut [u8])
     requires { length numbers.now ≡ record_size }
 {
     let mut copy = [0u32; numbers::RECORD];
-    same::copy(numbers, &mut copy);
+    copy.copy_from_slice(numbers);
     on_copy(numbers, &mut copy, k, was, panel, store)
 }
 
@@ -105,16 +92,12 @@ fn on_copy(
 {
     harness::fill(panel, 0, 1);
     harness::fill(store, 0, 1);
-    let no = common_refusal(perform::perform(copy, call(k), &UNITS, panel, store));
-    if no == 0 {
-        return Verdict::Number(0);
+    let refusal = common_refusal(perform::perform(copy, call(k), &UNITS, panel, store));
+    if refusal.is_none() || was == crcs_of(panel, store) && numbers == copy {
+        Ok(refusal)
+    } else {
+        Err(Fault::Changed)
     }
-    if same_crcs(was, crcs_of(panel, store)) {
-        if same::are_same(numbers, copy) {
-            return Verdict::Number(no);
-        }
-    }
-    Verdict::Changed
 }
 
 // The CRCs of the memories.
@@ -125,27 +108,11 @@ fn crcs_of(panel: &[u8], store: &[u8]) -> Crcs {
     }
 }
 
-// Whether both memories have the same CRCs as before.
-fn same_crcs(a: Crcs, b: Crcs) -> bool {
-    if a.panel != b.panel {
-        return false;
-    }
-    a.store == b.store
-}
-
-// The number of a refusal that all calls share, 8 or 9; 0 for any other answer.
-fn common_refusal(a: Answer) -> u32 {
+// A refusal that all calls share, 8 or 9; none for any other answer.
+fn common_refusal(a: Result<Answer, Refusal>) -> Option<Refusal> {
     match a {
-        Answer::Refused(no) => shared(no),
-        _ => 0,
-    }
-}
-
-// The number of a refusal if it is one that all calls share, else 0.
-fn shared(no: u32) -> u32 {
-    match no {
-        8 | 9 => no,
-        _ => 0,
+        Err(refusal @ (Refusal::Length | Refusal::UnsoundRecord)) => Some(refusal),
+        _ => None,
     }
 }
 

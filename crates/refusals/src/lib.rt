@@ -1,47 +1,79 @@
-// The numbers with which operations and calls are refused, each once. Names and numbers are those of the host crate and its C
+// Why operations and calls are refused, each reason once, with its number. Names and numbers are those of the host crate and its C
 // header.
 #![tactic(auto)]
 
-// There is no such DC.
-pub const NO_DC: u32 = 1;
+ghost use Rattle.std.specs.Prelude.{◌≡◌};
+ghost use Rattle.refusals.specs.Refusal.{code_of, number_in};
 
-// The DC has no surface: no bitmap was selected, or it was deleted.
-pub const NO_SURFACE: u32 = 2;
+// Why an operation or a call is refused, with its number. 14 to 19 are kept for calls that are added later.
+#[derive(Clone, Copy, Debug, PartialEq, Eq)]
+pub enum Refusal {
+    // There is no such DC.
+    NoDc = 1,
 
-// There is no such source DC.
-pub const NO_SOURCE_DC: u32 = 3;
+    // The DC has no surface: no bitmap was selected, or it was deleted.
+    NoSurface = 2,
 
-// The source DC has no surface.
-pub const NO_SOURCE_SURFACE: u32 = 4;
+    // There is no such source DC.
+    NoSourceDc = 3,
 
-// 256 created objects are live.
-pub const TOO_MANY_OBJECTS: u32 = 5;
+    // The source DC has no surface.
+    NoSourceSurface = 4,
 
-// A side is outside its limits.
-pub const SIDE: u32 = 6;
+    // 256 created objects are live.
+    TooManyObjects = 5,
 
-// The panel memory or the store is too short.
-pub const TOO_SHORT: u32 = 7;
+    // A side is outside its limits.
+    Side = 6,
 
-// Lent bytes have a wrong length.
-pub const LENGTH: u32 = 8;
+    // The panel memory or the store is too short.
+    TooShort = 7,
 
-// The record is unsound, or the numbers are no record.
-pub const UNSOUND_RECORD: u32 = 9;
+    // Lent bytes have a wrong length.
+    Length = 8,
 
-// A text has more than 65,535 units.
-pub const TEXT_TOO_LONG: u32 = 10;
+    // The record is unsound, or the numbers are no record.
+    UnsoundRecord = 9,
 
-// A position is outside -32,768 to 32,767.
-pub const POSITION: u32 = 11;
+    // A text has more than 65,535 units.
+    TextTooLong = 10,
 
-// The bytes are not exactly one saved table.
-pub const TABLE: u32 = 12;
+    // A position is outside -32,768 to 32,767.
+    Position = 11,
 
-// The output is shorter than the saved table.
-pub const OUTPUT_TOO_SHORT: u32 = 13;
+    // The bytes are not exactly one saved table.
+    Table = 12,
 
-// 14 to 19 are kept for calls that are added later.
+    // The output is shorter than the saved table.
+    OutputTooShort = 13,
 
-// The numbers of a host's call are no call.
-pub const NO_CALL: u32 = 255;
+    // The numbers of a host's call are no call.
+    NoCall = 255,
+}
+
+impl Refusal {
+    // Returns the refusal's number.
+    pub fn number(self) -> u32
+        ensures { result ≡ code_of self }
+    {
+        self as u32
+    }
+}
+
+impl From<Refusal> for u32 {
+    ghost from_gives = { λ r n. n ≡ code_of r };
+
+    fn from(r: Refusal) -> u32 {
+        r.number()
+    }
+}
+
+// Returns the number with which a result is refused, 0 if it is accepted.
+pub fn number_in(r: Result<(), Refusal>) -> u32
+    ensures { result ≡ number_in r }
+{
+    match r {
+        Ok(()) => 0,
+        Err(refusal) => refusal.number(),
+    }
+}

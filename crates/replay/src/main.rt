@@ -11,7 +11,7 @@ mod table;
 ghost use Rattle.std.specs.Prelude.{◌≤◌};
 
 use harness::LONGEST;
-use script::{Header, HeaderRead};
+use script::Header;
 use std::env::Env;
 use std::io;
 
@@ -50,8 +50,8 @@ fn run(rt: &impl Print, s: &[u8], picture: bool) -> io::Result<()> {
         return output::empty().text(b"bad script").print(rt);
     }
     match script::read_header(s) {
-        HeaderRead::Bad => output::empty().text(b"bad script").print(rt),
-        HeaderRead::Is(h) => serve(rt, s, h, picture),
+        None => output::empty().text(b"bad script").print(rt),
+        Some(h) => serve(rt, s, h, picture),
     }
 }
 

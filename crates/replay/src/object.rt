@@ -1,13 +1,13 @@
 // An object as its kind and fields.
-ghost use Rattle.std.specs.Prelude.{◌+◌, ◌≤◌};
+ghost use Rattle.std.specs.Prelude.{◌+◌, ◌≤◌, length};
 
-use gdi::{Bitmap, Dc, DcSurface, GdiObject, Pen, SelectedBitmap};
+use gdi::{Bitmap, Dc, DcSurface, GdiObject, Pen};
 use output::Line;
 
 // Adds the kind and the fields, those of change requests if they are asked for.
 pub fn add(l: Line, o: GdiObject, requests: bool) -> Line
-    requires { l.len ≤ 24 }
-    ensures { result.len ≤ 140 }
+    requires { length l ≤ 24 }
+    ensures { length result ≤ 140 }
 {
     match o {
         GdiObject::Dc(d) => add_dc(l.text(b"dc "), d, requests),
@@ -20,8 +20,8 @@ pub fn add(l: Line, o: GdiObject, requests: bool) -> Line
 
 // Adds a bitmap's kind and fields.
 fn add_bitmap(l: Line, b: Bitmap) -> Line
-    requires { l.len ≤ 24 }
-    ensures { result.len ≤ 120 }
+    requires { length l ≤ 24 }
+    ensures { length result ≤ 120 }
 {
     l.text(b"bitmap ")
         .decimal(b.width as u64)
@@ -33,8 +33,8 @@ fn add_bitmap(l: Line, b: Bitmap) -> Line
 
 // Adds a pen's kind and fields.
 fn add_pen(l: Line, p: Pen) -> Line
-    requires { l.len ≤ 24 }
-    ensures { result.len ≤ 120 }
+    requires { length l ≤ 24 }
+    ensures { length result ≤ 120 }
 {
     l.text(b"pen ")
         .hex8(p.color.0)
@@ -44,12 +44,10 @@ fn add_pen(l: Line, p: Pen) -> Line
 
 // Adds a DC's fields, its position among them if the fields of change requests are asked for.
 pub fn add_dc(l: Line, d: Dc, requests: bool) -> Line
-    requires { l.len ≤ 27 }
-    ensures { result.len ≤ 140 }
+    requires { length l ≤ 27 }
+    ensures { length result ≤ 140 }
 {
-    let surface = d.surface;
-    let bitmap = d.selected_bitmap;
-    let drawn_on = add_selected_bitmap(add_surface(l, surface), bitmap);
+    let drawn_on = add_selected_bitmap(add_surface(l, d.surface), d.selected_bitmap);
     let fields = add_settings(add_colors(add_selected(drawn_on, d), d), d);
     if requests {
         return add_position(fields.space(), d.pos_x, d.pos_y);
@@ -59,16 +57,16 @@ pub fn add_dc(l: Line, d: Dc, requests: bool) -> Line
 
 // Adds a position.
 pub fn add_position(l: Line, x: i32, y: i32) -> Line
-    requires { l.len + 33 ≤ 160 }
-    ensures { result.len ≤ l.len + 23 }
+    requires { length l + 33 ≤ 160 }
+    ensures { length result ≤ length l + 23 }
 {
     l.signed_decimal(x).space().signed_decimal(y)
 }
 
 // Adds whether a DC paints the panel or its bitmap.
 fn add_surface(l: Line, surface: DcSurface) -> Line
-    requires { l.len + 7 ≤ 160 }
-    ensures { result.len ≤ l.len + 7 }
+    requires { length l + 7 ≤ 160 }
+    ensures { length result ≤ length l + 7 }
 {
     match surface {
         DcSurface::Screen => l.text(b"screen "),
@@ -77,20 +75,20 @@ fn add_surface(l: Line, surface: DcSurface) -> Line
 }
 
 // Adds a DC's bitmap.
-fn add_selected_bitmap(l: Line, bitmap: SelectedBitmap) -> Line
-    requires { l.len + 9 ≤ 160 }
-    ensures { result.len ≤ l.len + 9 }
+fn add_selected_bitmap(l: Line, bitmap: Option<u32>) -> Line
+    requires { length l + 9 ≤ 160 }
+    ensures { length result ≤ length l + 9 }
 {
     match bitmap {
-        SelectedBitmap::Unset => l.text(b"none "),
-        SelectedBitmap::Chosen(handle) => l.hex8(handle).space(),
+        None => l.text(b"none "),
+        Some(handle) => l.hex8(handle).space(),
     }
 }
 
 // Adds a DC's brush, pen and font.
 fn add_selected(l: Line, d: Dc) -> Line
-    requires { l.len + 27 ≤ 160 }
-    ensures { result.len ≤ l.len + 27 }
+    requires { length l + 27 ≤ 160 }
+    ensures { length result ≤ length l + 27 }
 {
     l.hex8(d.selected_brush)
         .space()
@@ -102,8 +100,8 @@ fn add_selected(l: Line, d: Dc) -> Line
 
 // Adds the colours of a DC's brush, pen and text.
 fn add_colors(l: Line, d: Dc) -> Line
-    requires { l.len + 27 ≤ 160 }
-    ensures { result.len ≤ l.len + 27 }
+    requires { length l + 27 ≤ 160 }
+    ensures { length result ≤ length l + 27 }
 {
     l.hex8(d.brush_color.0)
         .space()
@@ -115,8 +113,8 @@ fn add_colors(l: Line, d: Dc) -> Line
 
 // Adds a DC's alignment, background colour and background mode.
 fn add_settings(l: Line, d: Dc) -> Line
-    requires { l.len + 19 ≤ 160 }
-    ensures { result.len ≤ l.len + 19 }
+    requires { length l + 19 ≤ 160 }
+    ensures { length result ≤ length l + 19 }
 {
     l.hex8(d.text_align)
         .space()

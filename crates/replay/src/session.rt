@@ -4,7 +4,7 @@ ghost use Rattle.numbers.specs.Layout.{record_size};
 ghost use Rattle.replay.specs.Calls.{CallBytes};
 
 use crate::{answer, state, table};
-use script::{CallRead, Header};
+use script::{Entry, Header};
 use std::io;
 
 // The byte of a text.
@@ -53,7 +53,7 @@ fn run(
 {
     harness::fill(panel, h.fill, 0);
     harness::fill(store, h.fill, 0);
-    let refusal = open::open(device, panel, store, h.width, h.height);
+    let refusal = refusals::number_in(open::open(device, panel, store, h.width, h.height));
     if picture {
         write_picture(rt, s, h, refusal, device, panel, store)
     } else {
@@ -136,27 +136,25 @@ fn perform_all(
     let mut at = script::HEADER;
     while at < s.len() {
         match script::read_call(s, h.requests, at) {
-            CallRead::Look => {
+            Some(Entry::Look) => {
                 state::show(rt, device, panel, store, h.requests, shown)?;
                 at += 1;
             }
-            CallRead::Is(call, next) => {
+            Some(Entry::Call(call, next)) => {
                 let n = take_units(s, at, next, &mut units);
                 let a = perform::perform(device, call, &units[0..n], panel, store);
                 answer::show(rt, s[at], a, h.requests, shown)?;
                 at = next;
             }
-            CallRead::Load(start, n) => {
+            Some(Entry::Load(start, n)) => {
                 table::perform_load(rt, s, start, n, shown, device, panel, store)?;
                 at = start + n;
             }
-            CallRead::Save(n, next) => {
+            Some(Entry::Save(n, next)) => {
                 table::perform_save(rt, device, n, h.fill, shown)?;
                 at = next;
             }
-            _ => {
-                return show_bad_call(rt, shown);
-            }
+            None => return show_bad_call(rt, shown),
         }
     }
     Ok(())

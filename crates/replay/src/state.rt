@@ -60,7 +60,7 @@ fn frames_of(low: u32, high: u32) -> u64 {
 
 // A line with the panel's sides.
 fn sides(width: u32, height: u32) -> Line
-    ensures { result.len ≤ 47 }
+    ensures { length result ≤ 47 }
 {
     output::empty()
         .text(b"panel ")
@@ -71,8 +71,8 @@ fn sides(width: u32, height: u32) -> Line
 
 // Adds the frames and the next handle.
 fn add_counters(l: Line, frames: u64, next_handle: u32) -> Line
-    requires { l.len ≤ 47 }
-    ensures { result.len ≤ 89 }
+    requires { length l ≤ 47 }
+    ensures { length result ≤ 89 }
 {
     l.text(b" frames ")
         .decimal(frames)
@@ -82,8 +82,8 @@ fn add_counters(l: Line, frames: u64, next_handle: u32) -> Line
 
 // Adds the stock bitmap's dirty mark and the number of created objects.
 fn add_objects(l: Line, stock_dirty: bool, count: u32) -> Line
-    requires { l.len ≤ 89 }
-    ensures { result.len ≤ 124 }
+    requires { length l ≤ 89 }
+    ensures { length result ≤ 124 }
 {
     l.text(b" stock ")
         .flag(stock_dirty)

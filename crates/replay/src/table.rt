@@ -51,7 +51,7 @@ fn save_into(
     shown: bool,
 ) -> io::Result<()> {
     harness::fill(out, fill, 0);
-    let saving = save::save(device, out);
+    let saving = Saving::from(save::save(device, out));
     if shown {
         return print_save(rt, saving, crc32::crc32(out));
     }
@@ -63,9 +63,9 @@ fn print_save(rt: &impl Print, saving: Saving, checksum: u32) -> io::Result<()> 
     output::empty()
         .hex2(SAVE)
         .space()
-        .decimal(saving.refusal as u64)
+        .decimal(u64::from(saving.refusal))
         .space()
-        .decimal(saving.length as u64)
+        .decimal(u64::from(saving.length))
         .space()
         .hex8(checksum)
         .print(rt)

@@ -7,6 +7,7 @@ ghost use Rattle.color.specs.Color.{from555, to555};
 use color::{Rgb555, Rgb565};
 
 // Widens an RGB555 word's green by its high bit; the top bit has no effect.
+#[tactic(auto, unfolding(color::specs::Color::from555))]
 pub fn rgb555_to_rgb565(p: Rgb555) -> Rgb565
     ensures { result.0 ≡ from555 p.0 }
 {
@@ -17,6 +18,7 @@ pub fn rgb555_to_rgb565(p: Rgb555) -> Rgb565
 }
 
 // Drops the low bit of an RGB565 word's green.
+#[tactic(auto, unfolding(color::specs::Color::to555))]
 pub fn rgb565_to_rgb555(p: Rgb565) -> Rgb555
     ensures { result.0 ≡ to555 p.0 }
 {

@@ -74,6 +74,7 @@ pub fn apply_table(table: u8, pat: u16, src: u16, dst: u16) -> u16
 }
 
 // The four entries of a table of S and D.
+#[tactic(auto, using(crate::proofs::Bits::bit_digit, crate::proofs::Bits::by_s_lem))]
 fn by_src(table: u8, src: u16, dst: u16) -> u16
     ensures { (n : ℕ) → n < 16 → bit result n ≡ bit table (2 * bit src n + bit dst n) }
 {
@@ -81,6 +82,7 @@ fn by_src(table: u8, src: u16, dst: u16) -> u16
 }
 
 // The two entries of a table of D.
+#[tactic(auto, using(crate::proofs::Bits::bit_digit, crate::proofs::Bits::spread_bit, crate::proofs::Bits::by_d_lem))]
 fn by_dst(table: u8, dst: u16) -> u16
     ensures { (n : ℕ) → n < 16 → bit result n ≡ bit table (bit dst n) }
 {
@@ -88,6 +90,7 @@ fn by_dst(table: u8, dst: u16) -> u16
 }
 
 // a where c is 1, and b where it is 0.
+#[tactic(auto, using(crate::proofs::Bits::bit_mux))]
 fn mux(c: u16, a: u16, b: u16) -> u16
     ensures { (n : ℕ) → bit result n ≡ pick (bit c n) (bit a n) (bit b n) }
 {
@@ -99,5 +102,5 @@ fn spread(b: u8) -> u16
     requires { b < 2 }
     ensures { result ≡ b * 65535 }
 {
-    (b as u16) * 65535
+    u16::from(b) * 65535
 }

@@ -1,110 +1,67 @@
 -- Laws of runs of words, for the loops over a row. Assumes nothing.
 use mathlib.Core.Bool.{Bool, cond}
 use mathlib.Core.List.{List}
-use mathlib.Core.Path.{◌≡◌, refl, sym, ◌∙◌, ap, subst}
-use Prim.Native.Nat.{ℕ, zero, suc, ◌+◌, ◌*◌, ◌-◌, ◌/◌, ◌%◌, ◌≤◌, ◌<◌}
-use native.Mathlib.Decide.{ℕ_discrete}
+use mathlib.Core.Path.{◌≡◌, refl, ◌∙◌, ap}
+use Prim.Native.Nat.{ℕ, ◌+◌, ◌*◌, ◌-◌, ◌/◌, ◌%◌, ◌≤◌, ◌<◌}
+use native.Mathlib.Decide.{ℕ_discrete, dec_lt}
 use native.Mathlib.Omega.{arith}
-use lib.ListN.{length, set, get_or}
+use lib.ListN.{length, set, get_or, drop}
+use lib.Seq.{get_or-take, get_or-drop}
 use Rattle.arithmetic.specs.Interval.{between}
 use Rattle.arithmetic.proofs.Interval.{between_yes, between_no, between_cong, bounds}
-use Rattle.words.specs.Words.{written, painted, word, byte_of}
-use Rattle.words.proofs.Painted.{painted_none, painted_same, painted_set, word_painted, word_kept, word_lt, low_byte, high_byte}
-use Rattle.words.proofs.Written.{written_at_lem, written_none, written_same, written_set}
-
--- a run of bytes: the empty run, and a run with one more byte
-pub write_first : (f : ℕ → ℕ) (m : List ℕ) (a : ℕ) → m ≡ written (between a (a + 0)) f m
-write_first f m a = written_none (between a (a + 0)) f m (λ k lt. between_no a (a + 0) k (omega arith))
-
-pub write_next : (f : ℕ → ℕ) (m₀ : List ℕ) {m : List ℕ} (a k x : ℕ) → a + k < length m₀ → m ≡ written (between a (a + k)) f m₀ → x ≡ f (a + k) → set m (a + k) x ≡ written (between a (a + (k + 1))) f m₀
-write_next f m₀ a k x room e g =
-    rw (e, g)
-    (written_set (between a (a + k)) (between a (a + (k + 1))) f m₀ (a + k) room (between_yes a (a + (k + 1)) (a + k) (omega arith) (omega arith))
-    (λ j n. between_cong a (a + (k + 1)) j a (a + k) j (omega arith) (omega arith)))
+use Rattle.words.specs.Words.{painted, word, byte_of}
+use Rattle.words.specs.Parts.{part, with_part}
+use Rattle.words.proofs.Parts.{length_part, length_with, with_before, with_within, with_behind}
+use Rattle.words.proofs.Painted.{is_painted, painted_none, painted_same, painted_set, word_painted, word_kept, word_lt, low_byte, high_byte}
 
 -- a run of words: the empty run, and a run with one more word
-pub paint_first : (v : ℕ → ℕ) (m : List ℕ) (a : ℕ) → m ≡ painted (between a (a + 0)) v m
-paint_first v m a = painted_none (between a (a + 0)) v m (λ i lt. between_no a (a + 0) i (omega arith))
+pub paint_first : (v : ℕ → ℕ) (m : List ℕ) (d e : ℕ) → e ≤ d → m ≡ painted (between d e) v m
+paint_first v m d e le = painted_none (between d e) v m (λ i lt. between_no d e i (omega arith))
 
-pub paint_next : (v : ℕ → ℕ) (m₀ : List ℕ) {m : List ℕ} (a k x : ℕ) → 2 * (a + k) + 1 < length m₀ → m ≡ painted (between a (a + k)) v m₀ → x ≡ v (a + k) → set (set m (2 * (a + k)) (x % 256)) (2 * (a + k) + 1) (x / 256) ≡ painted (between a (a + (k + 1))) v m₀
-paint_next v m₀ a k x room e g =
+pub paint_next : (v : ℕ → ℕ) (m₀ : List ℕ) {m : List ℕ} (d i x : ℕ) → d ≤ i → 2 * i + 1 < length m₀ → m ≡ painted (between d i) v m₀ → x ≡ v i → set (set m (2 * i) (x % 256)) (2 * i + 1) (x / 256) ≡ painted (between d (i + 1)) v m₀
+paint_next v m₀ d i x le room e g =
     rw (e, g)
-    (painted_set (between a (a + k)) (between a (a + (k + 1))) v m₀ (a + k) room (between_yes a (a + (k + 1)) (a + k) (omega arith) (omega arith))
-    (λ j n. between_cong a (a + (k + 1)) j a (a + k) j (omega arith) (omega arith)))
+    (painted_set (between d i) (between d (i + 1)) v m₀ i room (between_yes d (i + 1) i le (omega arith))
+    (λ j n. between_cong d (i + 1) j d i j (omega arith) (omega arith)))
 
 -- the word after the run is still the old one
-pub next_kept : (v : ℕ → ℕ) (m₀ : List ℕ) {m : List ℕ} (a k : ℕ) → 2 * (a + k) + 1 < length m₀ → m ≡ painted (between a (a + k)) v m₀ → word m (a + k) ≡ word m₀ (a + k)
-next_kept v m₀ a k room e = rw e (word_kept (between a (a + k)) v m₀ (a + k) room (between_no a (a + k) (a + k) (omega arith)))
+pub next_kept : (v : ℕ → ℕ) (m₀ : List ℕ) {m : List ℕ} (d i : ℕ) → 2 * i + 1 < length m₀ → m ≡ painted (between d i) v m₀ → word m i ≡ word m₀ i
+next_kept v m₀ d i room e = rw e (word_kept (between d i) v m₀ i room (between_no d i i (omega arith)))
 
--- bytes 2d to 2 (d + n) are words d to d + n
-run_bytes : (d n k : ℕ) → between (2 * d) (2 * d + 2 * n) k ≡ between d (d + n) (k / 2)
-run_bytes d n k = between_cong (2 * d) (2 * d + 2 * n) k d (d + n) (k / 2) (omega arith) (omega arith)
-
--- a run of zero bytes is a run of zero words
-pub zeros_painted : (d n : ℕ) (m : List ℕ) → written (between (2 * d) (2 * d + 2 * n)) (λ _. 0) m ≡ painted (between d (d + n)) (λ _. 0) m
-unfolding painted
-zeros_painted d n m =
-    written_same (between (2 * d) (2 * d + 2 * n)) (λ k. between d (d + n) (k / 2)) (λ _. 0) (λ k. byte_of 0 (k % 2)) m (λ k lt. run_bytes d n k) (λ k lt t. by (k % 2))
+-- copied bytes are copied words
+pub copy_painted : (d s n : ℕ) (src m ys : List ℕ) → ys ≡ part src (2 * s) (2 * n) → 2 * (d + n) ≤ length m → 2 * (s + n) ≤ length src → ((j : ℕ) → get_or src j 0 < 256)
+    → with_part m (2 * d) (2 * n) ys ≡ painted (between d (d + n)) (λ i. word src (s + (i - d))) m
+copy_painted d s n src m ys e fits room bytes =
+    is_painted (between d (d + n)) (λ i. word src (s + (i - d))) m (with_part m (2 * d) (2 * n) ys) (length_with m ys (2 * d) (2 * n) len (omega arith))
+    (λ k lt. by k lt (dec_lt k (2 * d)) (dec_lt k (2 * d + 2 * n)))
   where
-    by : (b : ℕ) → 0 ≡ byte_of 0 b
-    by zero = refl
-    by (suc b) = refl
+    len : length ys ≡ 2 * n
+    len = ap length e ∙ length_part src (2 * s) (2 * n) (omega arith)
 
--- the bytes of an inverted word
-low : (a b : ℕ) → a < 256 → b < 256 → 255 - a ≡ (65535 - (a + 256 * b)) % 256
-low a b h k = omega arith
+    -- byte k of the run is a byte of the source
+    read : (k : ℕ) → 2 * d ≤ k → k < 2 * d + 2 * n → get_or ys (k - 2 * d) 0 ≡ get_or src (2 * s + (k - 2 * d)) 0
+    read k le lt =
+        ap (λ (l : List ℕ). get_or l (k - 2 * d) 0) e
+        ∙ get_or-take (2 * n) (drop (2 * s) src) (k - 2 * d) 0 (omega arith)
+        ∙ get_or-drop (2 * s) src (k - 2 * d) 0
 
-high : (a b : ℕ) → a < 256 → b < 256 → 255 - b ≡ (65535 - (a + 256 * b)) / 256
-high a b h k = omega arith
-
--- a run of inverted bytes is a run of inverted words
-pub inverted_painted : (d n : ℕ) (m : List ℕ) → (0 < n → (k : ℕ) → get_or m k 0 < 256) → written (between (2 * d) (2 * d + 2 * n)) (λ k. 255 - get_or m k 0) m ≡ painted (between d (d + n)) (λ i. 65535 - word m i) m
-unfolding painted word
-inverted_painted d n m small =
-    written_same (between (2 * d) (2 * d + 2 * n)) (λ k. between d (d + n) (k / 2)) (λ k. 255 - get_or m k 0) (λ k. byte_of (65535 - word m (k / 2)) (k % 2)) m (λ k lt. run_bytes d n k)
-    (λ k lt t. let h = bounds d (d + n) (k / 2) t in by k (small (omega arith)) (ℕ_discrete (k % 2) 0))
-  where
-    by : (k : ℕ) → ((j : ℕ) → get_or m j 0 < 256) → Dec (k % 2 ≡ 0) → 255 - get_or m k 0 ≡ byte_of (65535 - word m (k / 2)) (k % 2)
-    by k bytes (yes e) =
-        let at : k ≡ 2 * (k / 2) = omega arith in
-        rw e (ap (λ (j : ℕ). 255 - get_or m j 0) at ∙ low (get_or m (2 * (k / 2)) 0) (get_or m (2 * (k / 2) + 1) 0) (bytes (2 * (k / 2))) (bytes (2 * (k / 2) + 1)))
-    by k bytes (no u) =
-        let e : k % 2 ≡ 1 = omega arith in
-        let at : k ≡ 2 * (k / 2) + 1 = omega arith in
-        rw e (ap (λ (j : ℕ). 255 - get_or m j 0) at ∙ high (get_or m (2 * (k / 2)) 0) (get_or m (2 * (k / 2) + 1) 0) (bytes (2 * (k / 2))) (bytes (2 * (k / 2) + 1)))
-
--- the byte after the run is still the old one
-pub byte_kept : (f : ℕ → ℕ) (m₀ : List ℕ) {m : List ℕ} (a k : ℕ) → a + k < length m₀ → m ≡ written (between a (a + k)) f m₀ → get_or m (a + k) 0 ≡ get_or m₀ (a + k) 0
-byte_kept f m₀ a k room e =
-    ap (λ (l : List ℕ). get_or l (a + k) 0) e
-    ∙ written_at_lem (between a (a + k)) f m₀ (a + k) room
-    ∙ ap (λ (t : Bool). cond t (f (a + k)) (get_or m₀ (a + k) 0)) (between_no a (a + k) (a + k) (λ p q. omega arith))
-
--- if the memory has bytes below 256 after a run, and the run's bytes were so before, then all were so before
-pub small_before : (f : ℕ → ℕ) (m₀ : List ℕ) {m : List ℕ} (a k : ℕ) → m ≡ written (between a (a + k)) f m₀ → (0 < k → (j : ℕ) → get_or m₀ j 0 < 256) → ((j : ℕ) → get_or m j 0 < 256) → (j : ℕ) → get_or m₀ j 0 < 256
-small_before f m₀ {m} a k e known small = by (ℕ_discrete k 0)
-  where
-    by : Dec (k ≡ 0) → (j : ℕ) → get_or m₀ j 0 < 256
-    by (yes z) j =
-        let same : m ≡ m₀ = e ∙ ap (λ (n : ℕ). written (between a (a + n)) f m₀) z ∙ sym (write_first f m₀ a) in
-        subst (λ (l : List ℕ). get_or l j 0 < 256) same (small j)
-    by (no z) j = known (omega arith) j
-
--- a run of copied bytes is a run of copied words
-pub copy_painted : (d s n : ℕ) (src m : List ℕ) → (0 < n → (k : ℕ) → get_or src k 0 < 256) → written (between (2 * d) (2 * d + 2 * n)) (λ k. get_or src (2 * s + (k - 2 * d)) 0) m ≡ painted (between d (d + n)) (λ i. word src (s + (i - d))) m
-unfolding painted
-copy_painted d s n src m small =
-    written_same (between (2 * d) (2 * d + 2 * n)) (λ k. between d (d + n) (k / 2)) (λ k. get_or src (2 * s + (k - 2 * d)) 0) (λ k. byte_of (word src (s + (k / 2 - d))) (k % 2)) m (λ k lt. run_bytes d n k)
-    (λ k lt t. let h = bounds d (d + n) (k / 2) t in by k h.0 (small (omega arith)) (ℕ_discrete (k % 2) 0))
-  where
-    by : (k : ℕ) → d ≤ k / 2 → ((j : ℕ) → get_or src j 0 < 256) → Dec (k % 2 ≡ 0) → get_or src (2 * s + (k - 2 * d)) 0 ≡ byte_of (word src (s + (k / 2 - d))) (k % 2)
-    by k h bytes (yes e) =
+    -- it is the low or the high byte of its word
+    half : (k : ℕ) → 2 * d ≤ k → Dec (k % 2 ≡ 0) → get_or src (2 * s + (k - 2 * d)) 0 ≡ byte_of (word src (s + (k / 2 - d))) (k % 2)
+    half k le (yes z) =
         let at : 2 * s + (k - 2 * d) ≡ 2 * (s + (k / 2 - d)) = omega arith in
-        rw (e, at) (low_byte src (s + (k / 2 - d)) (bytes (2 * (s + (k / 2 - d)))))
-    by k h bytes (no u) =
-        let e : k % 2 ≡ 1 = omega arith in
+        rw (z, at) (low_byte src (s + (k / 2 - d)) (bytes (2 * (s + (k / 2 - d)))))
+    half k le (no u) =
+        let z : k % 2 ≡ 1 = omega arith in
         let at : 2 * s + (k - 2 * d) ≡ 2 * (s + (k / 2 - d)) + 1 = omega arith in
-        rw (e, at) (high_byte src (s + (k / 2 - d)) (bytes (2 * (s + (k / 2 - d)))))
+        rw (z, at) (high_byte src (s + (k / 2 - d)) (bytes (2 * (s + (k / 2 - d)))))
+
+    by : (k : ℕ) → k < length m → Dec (k < 2 * d) → Dec (k < 2 * d + 2 * n) → get_or (with_part m (2 * d) (2 * n) ys) k 0 ≡ cond (between d (d + n) (k / 2)) (byte_of (word src (s + (k / 2 - d))) (k % 2)) (get_or m k 0)
+    by k lt (yes a) b = with_before m ys (2 * d) (2 * n) len (omega arith) k a ∙ rw (between_no d (d + n) (k / 2) (λ p q. omega arith))
+    by k lt (no a) (no b) = with_behind m ys (2 * d) (2 * n) len (omega arith) k (omega arith) ∙ rw (between_no d (d + n) (k / 2) (λ p q. omega arith))
+    by k lt (no a) (yes b) =
+        with_within m ys (2 * d) (2 * n) len (omega arith) k (omega arith) b
+        ∙ read k (omega arith) b
+        ∙ rw (between_yes d (d + n) (k / 2) (omega arith) (omega arith)) (half k (omega arith) (ℕ_discrete (k % 2) 0))
 
 -- a row read into a buffer has the words that it was read from
 pub buffered : (n s : ℕ) (m row₀ : List ℕ) {row : List ℕ} → ((k : ℕ) → get_or m k 0 < 256) → 2 * n ≤ length row₀

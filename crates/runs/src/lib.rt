@@ -7,15 +7,13 @@ ghost use Rattle.arithmetic.specs.Interval.{between};
 ghost use Rattle.words.specs.Words.{painted, word};
 
 // Stores v at each word of the run.
+#[tactic(auto, using(crate::proofs::Runs::paint_first, crate::proofs::Runs::paint_next))]
 pub fn fill_run(mem: &mut [u8], d: usize, n: usize, v: u16)
     requires { 2 * (d + n) ≤ length mem.old }
     ensures { mem.new ≡ painted (between d (d + n)) (λ _. v) mem.old }
 {
-    let lo = (v % 256) as u8;
-    let hi = (v / 256) as u8;
     for k in 0..n {
-        mem[2 * (d + k)] = lo;
-        mem[2 * (d + k) + 1] = hi;
+        words::set_word(mem, d + k, v);
     }
 }
 
@@ -24,17 +22,16 @@ pub fn zero_run(mem: &mut [u8], d: usize, n: usize)
     requires { 2 * (d + n) ≤ length mem.old }
     ensures { mem.new ≡ painted (between d (d + n)) (λ _. 0) mem.old }
 {
-    for k in 0..2 * n {
-        mem[2 * d + k] = 0;
-    }
+    fill_run(mem, d, n, 0);
 }
 
 // Inverts each bit of the run.
+#[tactic(auto, using(crate::proofs::Runs::paint_first, crate::proofs::Runs::paint_next, crate::proofs::Runs::next_kept))]
 pub fn invert_run(mem: &mut [u8], d: usize, n: usize)
     requires { 2 * (d + n) ≤ length mem.old }
     ensures { mem.new ≡ painted (between d (d + n)) (λ i. 65535 - word mem.old i) mem.old }
 {
-    for k in 0..2 * n {
-        mem[2 * d + k] = 255 - mem[2 * d + k];
+    for i in d..d + n {
+        words::set_word(mem, i, !words::word_at(mem, i));
     }
 }

@@ -44,7 +44,7 @@ module _ (l : List ℕ) (n : ℕ) where
       by false s f t = refl
 
   module _ (t : (is_record l && is_sound (view l)) ≡ true) where
-    pub is_record_lem : is_record l ≡ true
+    is_record_lem : is_record l ≡ true
     is_record_lem = (both (is_record l) (is_sound (view l)) t).0
 
     is_sound_lem : is_sound (view l) ≡ true

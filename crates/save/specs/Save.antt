@@ -1,8 +1,15 @@
 -- What saving a record's table ensures (document 02, request 02).
-use Rattle.std.specs.Prelude.{List, ◌++◌, ◌≡◌, ℕ, length as size, drop}
+use Rattle.std.specs.Prelude.{List, ◌++◌, ◌≡◌, Result, Ok, Err, ℕ, length as size, drop}
+use Rattle.refusals.specs.declared.Refusal.{Refusal}
+use Rattle.refusals.specs.Refusal.{code_of}
 use Rattle.plan.specs.Answer.{Parts}
 use Rattle.plan.specs.Calls.{save, plan_on}
 use Rattle.save.specs.declared.Saving.{Saving}
+
+-- the length of a table that was saved, or why it was not, as numbers
+abbrev pub saving : Result ℕ Refusal → Saving
+saving (Ok n) = record { refusal = 0; length = n }
+saving (Err r) = record { refusal = code_of r; length = 0 }
 
 -- The answer of a save on a flat record, into an output of so many bytes. A save takes no memory, so their lengths have no effect.
 abbrev pub save_answer : (l : List ℕ) → (room : ℕ) → Parts

@@ -1,4 +1,5 @@
 -- A sound flat record fits the fields of its table. Assumes nothing.
+use Rattle.std.specs.Prelude.{Option, None, Some}
 use mathlib.Core.Bool.{Bool, true, false, cond, true≢false}
 use mathlib.Core.List.{List}
 use mathlib.Core.Path.{◌≡◌, refl, sym, ◌∙◌, ap}
@@ -14,8 +15,6 @@ use Rattle.bigendian.specs.BigEndian.{signed32}
 use Rattle.surface.specs.Refusal.{side}
 use Rattle.gdi.specs.declared.DcSurface.{DcSurface}
 use Rattle.gdi.specs.declared.DcSurface.TheVariants.{Screen, Memory}
-use Rattle.gdi.specs.declared.SelectedBitmap.{SelectedBitmap}
-use Rattle.gdi.specs.declared.SelectedBitmap.TheVariants.{Unset, Chosen}
 use Rattle.gdi.specs.declared.GdiObject.TheVariants.{Dc as DcOf}
 use Rattle.gdi.specs.declared.Slot.{Slot}
 use Rattle.gdi.specs.Lookup.{slot_at}
@@ -41,20 +40,20 @@ flag_small : (f : Bool) → flag_number f < 2
 flag_small true = omega arith
 flag_small false = omega arith
 
-present_small : (b : SelectedBitmap) → present_number b < 2
-present_small Unset = omega arith
-present_small (Chosen h) = omega arith
+present_small : (b : Option ℕ) → present_number b < 2
+present_small None = omega arith
+present_small (Some h) = omega arith
 
 bitmap_small : (n h : ℕ) → h < 2 ^ 32 → bitmap_number (bitmap_of n h) < 2 ^ 32
 bitmap_small n h lt = by (flag_of n)
   where
-    by : (t : Bool) → bitmap_number (cond t (Chosen h) Unset) < 2 ^ 32
+    by : (t : Bool) → bitmap_number (cond t (Some h) None) < 2 ^ 32
     by true = lt
     by false = omega arith
 
-bitmap_again : (b : SelectedBitmap) → bitmap_of (present_number b) (bitmap_number b) ≡ b
-bitmap_again Unset = refl
-bitmap_again (Chosen h) = refl
+bitmap_again : (b : Option ℕ) → bitmap_of (present_number b) (bitmap_number b) ≡ b
+bitmap_again None = refl
+bitmap_again (Some h) = refl
 
 signed_again : (n : ℕ) → n < 2 ^ 32 → signed32 (complement32 (signed32 n)) ≡ signed32 n
 signed_again n lt = ap signed32 (sym (complement_back n lt))

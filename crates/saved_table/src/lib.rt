@@ -35,6 +35,7 @@ pub const WORD_BITS: usize = 32;
 pub const SLOT_BITS: usize = 35;
 
 // Returns how many bits the fields of an object of this kind have.
+#[tactic(auto, unfolding(bits::specs::Bits::total))]
 pub fn object_bits(kind: u32) -> usize
     ensures { result ≡ total (widths_of kind) }
 {

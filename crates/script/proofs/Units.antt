@@ -5,19 +5,15 @@ use Prim.Native.Nat.{ℕ, zero, suc, ◌+◌, ◌*◌, ◌<◌}
 use native.Mathlib.Nat.{add-zero}
 use native.Mathlib.Numerals.{add-one}
 use native.Mathlib.Omega.{arith}
-use lib.ListN.{get_or, length, take, drop, set}
-use lib.Seq.{drop-cons, take_at, set_at}
+use lib.ListN.{get_or, length, drop, set}
+use lib.Seq.{drop-cons, set_at}
 use Rattle.bigendian.specs.BigEndian.{be16}
 use Rattle.script.specs.Script.{units_in}
 
-pub length_units : (s : List ℕ) (p n : ℕ) → length (units_in s p n) ≡ n
+length_units : (s : List ℕ) (p n : ℕ) → length (units_in s p n) ≡ n
 unfolding units_in
 length_units s p zero = refl
 length_units s p (suc n) = ap suc (length_units s (p + 2) n)
-
-pub no_units : (s : List ℕ) (p : ℕ) (u : List ℕ) → u ≡ units_in s p 0 ++ drop 0 u
-unfolding units_in
-no_units s p u = refl
 
 -- one more unit, at the end
 units_more : (s : List ℕ) (p n : ℕ) → units_in s p (suc n) ≡ units_in s p n ++ (be16 s (p + 2 * n) ∷ [])
@@ -27,11 +23,7 @@ units_more s p (suc n) =
     let e : p + 2 + 2 * n ≡ p + 2 * suc n = omega arith in
     ap (λ (l : List ℕ). be16 s p ∷ l) (units_more s (p + 2) n ∙ ap (λ (q : ℕ). units_in s (p + 2) n ++ (be16 s q ∷ [])) e)
 
--- the part of the units that is lent
-pub units_front : (s : List ℕ) (p n : ℕ) (u : List ℕ) → take n (units_in s p n ++ drop n u) ≡ units_in s p n
-units_front s p n u = take_at (units_in s p n) (drop n u) n (length_units s p n)
-
--- one more unit is stored at the front of u
+-- one more unit is stored behind those at the front of u
 pub units_next : (s : List ℕ) (p : ℕ) (u : List ℕ) (k : ℕ) {l : List ℕ} {v : ℕ} → k < length u → l ≡ units_in s p k ++ drop k u → v ≡ be16 s (p + 2 * k)
     → set l k v ≡ units_in s p (k + 1) ++ drop (k + 1) u
 units_next s p u k {l} {v} lt e f =

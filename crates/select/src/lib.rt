@@ -1,38 +1,37 @@
 // Selection, on a flat record.
 #![tactic(auto)]
 
-ghost use Rattle.std.specs.Prelude.{◌≡◌};
+ghost use Rattle.std.specs.Prelude.{◌≡◌, Ok};
 ghost use Rattle.numbers.specs.View.{view};
 ghost use Rattle.plan.specs.Select.{select_in, selected_of, select_into};
 ghost use Rattle.ready.proofs.Ready.{Lent};
 ghost use Rattle.plan.specs.Answer.{parts_of};
 ghost use Rattle.plan.specs.Followed.{Followed, OnNumbers};
 
-use gdi::{Dc, DcFound, Kind, STOCK_DEFAULT_BITMAP, SelectedBitmap};
+use gdi::{Dc, Kind, STOCK_DEFAULT_BITMAP};
 use plan::Answer;
 
 // Returns the DC with the object of this handle and kind selected.
 pub fn select_in(d: Dc, handle: u32, kind: Kind) -> Dc
     ensures { result ≡ select_in d handle kind }
 {
-    let mut after = d;
     match kind {
         Kind::Bitmap => gdi::with_bitmap(d, handle),
-        Kind::Brush(c) => {
-            after.selected_brush = handle;
-            after.brush_color = c;
-            after
-        }
-        Kind::Pen(c) => {
-            after.selected_pen = handle;
-            after.pen_color = c;
-            after
-        }
-        Kind::Font => {
-            after.selected_font = handle;
-            after
-        }
-        Kind::Other => after,
+        Kind::Brush(c) => Dc {
+            selected_brush: handle,
+            brush_color: c,
+            ..d
+        },
+        Kind::Pen(c) => Dc {
+            selected_pen: handle,
+            pen_color: c,
+            ..d
+        },
+        Kind::Font => Dc {
+            selected_font: handle,
+            ..d
+        },
+        Kind::Other => d,
     }
 }
 
@@ -41,13 +40,7 @@ pub fn selected(d: Dc, kind: Kind) -> u32
     ensures { result ≡ selected_of d kind }
 {
     match kind {
-        Kind::Bitmap => {
-            let s = d.selected_bitmap;
-            match s {
-                SelectedBitmap::Unset => STOCK_DEFAULT_BITMAP,
-                SelectedBitmap::Chosen(h) => h,
-            }
-        }
+        Kind::Bitmap => d.selected_bitmap.unwrap_or(STOCK_DEFAULT_BITMAP),
         Kind::Brush(_) => d.selected_brush,
         Kind::Pen(_) => d.selected_pen,
         Kind::Font => d.selected_font,
@@ -58,19 +51,15 @@ pub fn selected(d: Dc, kind: Kind) -> u32
 // Selects an object into a DC; returns the handle selected before, or 0 if the handles name no such object or DC.
 pub fn select_into(numbers: &mut [u32], dc: u32, object: u32) -> Answer
     requires { Lent numbers.old (view numbers.old).panel_len (view numbers.old).store_len }
-    ensures { OnNumbers (λ n. Followed (select_into (view n) dc object) n) numbers (parts_of result) }
+    ensures { OnNumbers (λ n. Followed (select_into (view n) dc object) n) numbers (parts_of (Ok result)) }
 {
     let k = lookup::find_kind(numbers, object);
     if let Kind::Other = k {
         return Answer::Handle(0);
     }
-    match lookup::find_dc(numbers, dc) {
-        DcFound::Is(p, d) => {
-            let old = selected(d, k);
-            let after = select_in(d, object, k);
-            lookup::update_dc(numbers, dc, p, after);
-            Answer::Handle(old)
-        }
-        DcFound::Absent => Answer::Handle(0),
-    }
+    let Some((p, d)) = lookup::find_dc(numbers, dc) else {
+        return Answer::Handle(0);
+    };
+    lookup::update_dc(numbers, dc, p, select_in(d, object, k));
+    Answer::Handle(selected(d, k))
 }

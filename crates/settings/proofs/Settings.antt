@@ -1,28 +1,32 @@
--- The two cases of a setting, whichever field it is: the DC is there, or it is not. Assumes nothing.
+-- What a setting call makes of the DC that was set, or was not found, whichever field it is. Assumes nothing.
+use Rattle.std.specs.Prelude.{Result, Ok, Err, None, MatchResult, IsOkAnd, IfOk, IfErr}
 use mathlib.Core.Bool.{true}
 use mathlib.Core.List.{List}
 use mathlib.Core.Path.{◌≡◌}
 use Prim.Native.Nat.{ℕ}
+use Rattle.refusals.specs.declared.Refusal.{Refusal}
+use Rattle.refusals.specs.declared.Refusal.TheVariants.{NoDc}
 use Rattle.gdi.specs.declared.Dc.{Dc}
-use Rattle.gdi.specs.declared.DcFound.{DcFound}
-use Rattle.gdi.specs.declared.DcFound.TheVariants.{Is, Absent}
-use Rattle.gdi.specs.declared.Spot.{Spot}
 use Rattle.gdi.specs.Lookup.{dc_of}
-use Rattle.gdi.specs.Updates.{with_dc}
-use Rattle.numbers.specs.View.{view, is_record, Updated}
+use Rattle.numbers.specs.View.{view, is_record}
 use Rattle.paint.specs.Memories.{Memories}
-use Rattle.plan.specs.Answer.{Parts, refused}
+use Rattle.plan.specs.declared.Answer.{Answer}
+use Rattle.plan.specs.Answer.{Parts, parts_of}
 use Rattle.plan.specs.Settings.{setting}
 use Rattle.plan.specs.Followed.{Followed}
 use Rattle.plan.proofs.Followed.{refusal, acceptance_record_only}
+use Rattle.settings.specs.Inner.{SetIn}
 
-module _ (old : Dc → Parts) (new : Dc → Dc) {l : List ℕ} (dc : ℕ) {found : DcFound} (e : found ≡ dc_of (view l) dc) where
-  -- the DC at p, set to d' and stored there; the old value a is the answer
-  pub set_in_dc : {p : Spot} {d d' : Dc} {a : Parts} {l' : List ℕ} → found ≡ Is p d → a ≡ old d → a.number ≡ 0 → d' ≡ new d
-      → Updated l (with_dc (view l) dc p d') l' → (ms : Memories) → Followed (setting old new (view l) dc) l ms a l' ms
+-- the setting was changed, and the old one is the answer; or there is no such DC
+module _ {T : Type 0} (old : Dc → Parts) (new : Dc → Dc) (accepted : (d : Dc) → (old d).number ≡ 0) {l l' : List ℕ} (h : ℕ) {Changed : Dc → Dc → T → Type 0} {Answered : T → Answer → Type 0} where
+  pub set_followed : (r : Result T Refusal) (a : Result Answer Refusal) → is_record l ≡ true
+      → IfOk r (λ o. SetIn (λ d after. Changed d after o) l h l') → IfErr r (λ e. (e ≡ NoDc) × (dc_of (view l) h ≡ None) × (l' ≡ l))
+      → MatchResult r (λ o. IsOkAnd a (Answered o)) (λ e. a ≡ Err e)
+      → ((d after : Dc) (o : T) (x : Answer) → Changed d after o → Answered o x → (parts_of (Ok x) ≡ old d) × (after ≡ new d))
+      → (ms : Memories) → Followed (setting old new (view l) h) l ms (parts_of a) l' ms
   unfolding setting
-  set_in_dc f o z n s ms = acceptance_record_only z (rw (← e, f, n, o)) s
-
-  pub set_no_dc : found ≡ Absent → is_record l ≡ true → (ms : Memories) → Followed (setting old new (view l) dc) l ms (refused 1) l ms
-  unfolding setting
-  set_no_dc f r ms = refusal r (rw (← e, f))
+  set_followed (Ok o) (Ok x) r s n q k ms =
+      let e = k s.before s.after o x s.changed q in
+      rw e.0 (acceptance_record_only (accepted s.before) (rw (s.found, e.1)) s.stored)
+  set_followed (Ok o) (Err y) r s n q k ms = absurd q
+  set_followed (Err y) a r s n q k ms = rw (q, n.0, n.2) (refusal r (rw n.1))

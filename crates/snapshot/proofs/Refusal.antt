@@ -5,6 +5,9 @@ use Prim.Native.Nat.{ℕ, ◌*◌, ◌≤◌}
 use native.Mathlib.Omega.{arith}
 use lib.ListN.{length}
 use borrow.Author.Tests.{eq-eqb, ne_eqb}
+use Rattle.refusals.specs.declared.Refusal.{Refusal}
+use Rattle.refusals.specs.Refusal.{code_of}
+use Rattle.refusals.proofs.Numbers.{number_not_0}
 use Rattle.surface.proofs.Accepted.{side_range}
 use Rattle.surface.proofs.Answers.{refused_bytes}
 use Rattle.numbers.specs.Layout.{record_size, width_place, height_place}
@@ -23,24 +26,24 @@ pub record Shown (l : List ℕ) (n : ℕ) : Type 0 where
   pub high : at l height_place ≤ 4096
   pub long : 2 * (at l width_place * at l height_place) ≤ n
 
-module _ (l : List ℕ) (n : ℕ) {number : ℕ} (is : number ≡ panel_refusal_on l n) where
+module _ (l : List ℕ) (n : ℕ) where
   module _ (got : ℕ) (wanted : (width height : ℕ) → ℕ) where
-    refused : (number ≡ 0 → ⊥) → number ≡ snapshot_refusal l n got wanted
+    refused : {number : ℕ} → number ≡ panel_refusal_on l n → (number ≡ 0 → ⊥) → number ≡ snapshot_refusal l n got wanted
     unfolding snapshot_refusal
-    refused k = rw (ne_eqb (panel_refusal_on l n) 0 (λ e. k (is ∙ e))) is
+    refused is k = rw (ne_eqb (panel_refusal_on l n) 0 (λ e. k (is ∙ e))) is
 
-    module _ (zero : number ≡ 0) where
+    module _ (is : 0 ≡ panel_refusal_on l n) where
       other_length : (got ≡ wanted (at l width_place) (at l height_place) → ⊥) → 8 ≡ snapshot_refusal l n got wanted
       unfolding snapshot_refusal
-      other_length k = rw (eq-eqb (panel_refusal_on l n) 0 (sym is ∙ zero), ne_eqb got (wanted (view l).width (view l).height) (λ e. k (rw (width_seen l, height_seen l) at e)))
+      other_length k = rw (eq-eqb (panel_refusal_on l n) 0 (sym is), ne_eqb got (wanted (view l).width (view l).height) (λ e. k (rw (width_seen l, height_seen l) at e)))
 
       exact : got ≡ wanted (at l width_place) (at l height_place) → 0 ≡ snapshot_refusal l n got wanted
       unfolding snapshot_refusal
-      exact e = rw (eq-eqb (panel_refusal_on l n) 0 (sym is ∙ zero), eq-eqb got (wanted (view l).width (view l).height) (rw (width_seen l, height_seen l) e))
+      exact e = rw (eq-eqb (panel_refusal_on l n) 0 (sym is), eq-eqb got (wanted (view l).width (view l).height) (rw (width_seen l, height_seen l) e))
 
-  pub shown : number ≡ 0 → Shown l n
-  shown zero =
-      let r = lent l n (view l).store_len number is zero in
+  pub shown : 0 ≡ panel_refusal_on l n → Shown l n
+  shown is =
+      let r = lent l n (view l).store_len 0 is refl in
       let s = parts (view l) r.ready.sound in
       let fits : 2 * ((view l).width * (view l).height) ≤ n = omega (arith, r.ready.panel, s.panel) in
       record {
@@ -51,13 +54,14 @@ module _ (l : List ℕ) (n : ℕ) {number : ℕ} (is : number ≡ panel_refusal_
       }
 
 -- A snapshot in any format, by the outcome of its tests: refused for the record or the panel memory, refused for the output, made.
-module _ (f : Format) {l panel out : List ℕ} {number : ℕ} (is : number ≡ panel_refusal_on l (length panel)) where
-  pub panel_refused : (number ≡ 0 → ⊥) → Snapped f l panel out number out
-  panel_refused k = record { answer = refused l (length panel) is (length out) f.wanted k; bytes = refused_bytes _ refl k _ _ }
+module _ (f : Format) {l panel out : List ℕ} where
+  pub panel_refused : (r : Refusal) → code_of r ≡ panel_refusal_on l (length panel) → Snapped f l panel out (code_of r) out
+  panel_refused r is = record { answer = refused l (length panel) (length out) f.wanted is (number_not_0 r); bytes = refused_bytes _ refl (number_not_0 r) _ _ }
 
-  pub output_refused : number ≡ 0 → (length out ≡ f.wanted (at l width_place) (at l height_place) → ⊥) → Snapped f l panel out 8 out
-  output_refused zero k = record { answer = other_length l (length panel) is (length out) f.wanted zero k; bytes = refl }
+  module _ (is : 0 ≡ panel_refusal_on l (length panel)) where
+    pub output_refused : (length out ≡ f.wanted (at l width_place) (at l height_place) → ⊥) → Snapped f l panel out 8 out
+    output_refused k = record { answer = other_length l (length panel) (length out) f.wanted is k; bytes = refl }
 
-  pub made : {out' : List ℕ} → number ≡ 0 → length out ≡ f.wanted (at l width_place) (at l height_place)
-      → out' ≡ f.picture (at l width_place) (at l height_place) panel → Snapped f l panel out 0 out'
-  made zero e g = record { answer = exact l (length panel) is (length out) f.wanted zero e; bytes = rw (width_seen l, height_seen l) g }
+    pub made : {out' : List ℕ} {n : ℕ} → n ≡ f.wanted (at l width_place) (at l height_place) → length out ≡ n
+        → out' ≡ f.picture (at l width_place) (at l height_place) panel → Snapped f l panel out 0 out'
+    made e h g = record { answer = exact l (length panel) (length out) f.wanted is (h ∙ e); bytes = rw (width_seen l, height_seen l) g }

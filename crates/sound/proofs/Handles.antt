@@ -13,10 +13,6 @@ use Rattle.gdi.specs.Lookup.{handle_at}
 use Rattle.sound.specs.Sound.{absent, distinct}
 
 module _ (l : List Slot) where
-  -- all pairs, with one more slot
-  pub absent_more : (j h : ℕ) → absent l j h ≡ true → (handle_at l j ≡ h → ⊥) → absent l (j + 1) h ≡ true
-  absent_more j h a ne = all_more j (λ i. not (eqb (handle_at l i) h)) a (ap not (ne_eqb _ _ ne))
-
   pub distinct_more : (k : ℕ) → distinct l k ≡ true → absent l k (handle_at l k) ≡ true → distinct l (k + 1) ≡ true
   distinct_more k = all_more k (λ i. absent l i (handle_at l i))
 

@@ -1,7 +1,7 @@
 // Checks the objects of a flat record, and finds where their pixels begin.
 #![tactic(auto)]
 
-ghost use Rattle.std.specs.Prelude.{◌≡◌, true, false, not, ◌&&◌, ◌+◌, ◌*◌, ◌≤◌, eqb, ltb, length};
+ghost use Rattle.std.specs.Prelude.{◌≡◌, true, false, not, ◌&&◌, ◌+◌, ◌*◌, ◌≤◌, eqb, length};
 ghost use Rattle.words.specs.Parts.{part};
 ghost use Rattle.gdi.specs.Record.{bytes_of};
 ghost use Rattle.gdi.specs.Stock.{is_stock};
@@ -23,15 +23,8 @@ pub fn object_bytes(object: GdiObject) -> usize
     ensures { result ≡ bytes_of object }
 {
     match object {
-        GdiObject::Dc(_) => 0,
-        GdiObject::Bitmap(m) => {
-            let w = m.width;
-            let h = m.height;
-            2 * ((w as usize) * (h as usize))
-        }
-        GdiObject::Brush(_) => 0,
-        GdiObject::Pen(_) => 0,
-        GdiObject::Font(_) => 0,
+        GdiObject::Bitmap(m) => 2 * (m.width as usize * m.height as usize),
+        GdiObject::Dc(_) | GdiObject::Brush(_) | GdiObject::Pen(_) | GdiObject::Font(_) => 0,
     }
 }
 
@@ -46,114 +39,69 @@ pub fn is_positioned(numbers: &[u32], p: usize) -> bool
 }
 
 // Returns whether the object in the slot at number p may be a created object.
+#[tactic(auto, using(crate::proofs::Objects::fits_read))]
 fn object_fits(numbers: &[u32], p: usize) -> bool
     requires { p + slot_size ≤ length numbers.now }
     ensures { result ≡ object_fits (object_of (at numbers.now (p + kind_place)) (part numbers.now (p + object_place) object_size)) }
 {
     match numbers[p + KIND] {
-        0 => {
-            if numbers[p + OBJECT] == 1 {
-                is_positioned(numbers, p + OBJECT)
-            } else {
-                false
-            }
-        }
-        1 => {
-            if surface::is_side(numbers[p + OBJECT]) {
-                surface::is_side(numbers[p + BITMAP_HEIGHT])
-            } else {
-                false
-            }
-        }
+        0 => numbers[p + OBJECT] == 1 && is_positioned(numbers, p + OBJECT),
+        1 => surface::is_side(numbers[p + OBJECT]) && surface::is_side(numbers[p + BITMAP_HEIGHT]),
         _ => true,
     }
 }
 
 // Returns how many bytes the pixels of the object in the slot at number p have.
+#[tactic(auto, using(crate::proofs::Objects::bytes_of_read, crate::proofs::Objects::pixels_few))]
 pub fn bytes_of(numbers: &[u32], p: usize) -> usize
     requires slot_size_in_bounds { p + slot_size ≤ length numbers.now }
     requires object_size_value { object_fits (object_of (at numbers.now (p + kind_place)) (part numbers.now (p + object_place) object_size)) ≡ true }
     ensures { result ≡ bytes_of (object_of (at numbers.now (p + kind_place)) (part numbers.now (p + object_place) object_size)) }
 {
-    if numbers[p + KIND] != 1 {
-        return 0;
+    match numbers[p + KIND] {
+        1 => 2 * (numbers[p + OBJECT] as usize * numbers[p + BITMAP_HEIGHT] as usize),
+        _ => 0,
     }
-    let w = numbers[p + OBJECT] as usize;
-    let h = numbers[p + BITMAP_HEIGHT] as usize;
-    2 * (w * h)
 }
 
 // Returns whether a handle is neither 0 nor stock. Every handle given out before handles wrap around is so.
+#[tactic(auto, unfolding(gdi::specs::Stock::is_stock))]
 fn handle_fits(h: u32) -> bool
     ensures { result ≡ (not (eqb h 0) && not (is_stock h)) }
 {
-    if h >= GDI_HANDLE_BASE {
-        if h < STOCK_WHITE_BRUSH {
-            return true;
-        }
-    }
-    if h == 0 {
-        return false;
-    }
-    !gdi::is_stock_handle(h)
+    h >= GDI_HANDLE_BASE && h < STOCK_WHITE_BRUSH || h != 0 && !gdi::is_stock_handle(h)
 }
 
-// The result of one pass over the slots: `end` is the end of all pixels in the store, or 0 if a slot is malformed or its object
-// unsound; `ascending` says that each handle is greater than the one before, so that all differ, as until handles wrap around.
+// The result of one pass over the slots: `end` is the end of all pixels in the store; `ascending` says that each handle is greater
+// than the one before, so that all differ, as until handles wrap around.
 #[derive(Clone, Copy)]
 pub struct Scan {
     pub end: usize,
     pub ascending: bool,
 }
 
-fn unfit() -> Scan
-    ensures { result ≡ record { end = 0; ascending = false } }
-{
-    Scan {
-        end: 0,
-        ascending: false,
-    }
-}
-
-// Returns whether handles that ascend up to last still ascend with h.
-fn goes_on(ascending: bool, last: u32, h: u32) -> bool
-    ensures { result ≡ (ltb last h && ascending) }
-{
-    if last < h {
-        return ascending;
-    }
-    false
-}
-
-// Checks every slot in one pass.
-pub fn scan_slots(numbers: &[u32]) -> Scan
+// Checks every slot in one pass. There is no result if a slot is malformed, or its object or handle unsound.
+pub fn scan_slots(numbers: &[u32]) -> Option<Scan>
     requires numbers_len { length numbers.now ≡ record_size }
     requires count_place_bound { at numbers.now count_place ≤ 256 }
     ensures { Scanned numbers.now result }
 {
-    let n = numbers[COUNT] as usize;
-    let mut i: usize = 0;
-    let mut end: usize = 2;
-    let mut last: u32 = 0;
+    let mut end = 2;
     let mut ascending = true;
-    while i < n {
+    let mut last = 0;
+    for i in 0..numbers[COUNT] as usize {
         let p = SLOTS + SLOT * i;
-        let e = p + SLOT;
-        if !well_formed::is_slot(&numbers[p..e]) {
-            return unfit();
-        }
-        if !handle_fits(numbers[p]) {
-            return unfit();
-        }
-        if !object_fits(numbers, p) {
-            return unfit();
+        if !well_formed::is_slot(&numbers[p..p + SLOT])
+            || !handle_fits(numbers[p])
+            || !object_fits(numbers, p)
+        {
+            return None;
         }
         end += bytes_of(numbers, p);
-        ascending = goes_on(ascending, last, numbers[p]);
+        ascending &= last < numbers[p];
         last = numbers[p];
-        i += 1;
     }
-    Scan { end, ascending }
+    Some(Scan { end, ascending })
 }
 
 // Returns where the pixels of object n begin in the store: after those of the stock bitmap and of the objects before it.
@@ -164,11 +112,9 @@ pub fn start_of(numbers: &[u32], n: usize) -> usize
     ensures value { result ≡ start_of (view numbers.now) n }
     ensures upper_bound { result ≤ 2 + 33554432 * 256 }
 {
-    let mut i: usize = 0;
-    let mut end: usize = 2;
-    while i < n {
+    let mut end = 2;
+    for i in 0..n {
         end += bytes_of(numbers, SLOTS + SLOT * i);
-        i += 1;
     }
     end
 }

@@ -1,5 +1,7 @@
 -- Refusals of the operations on lent bytes, and their answers.
-use Rattle.std.specs.Prelude.{Bool, ◌&&◌, cond, List, ◌≡◌, ℕ, ◌*◌, leb, eqb}
+use Rattle.std.specs.Prelude.{Bool, false, ◌&&◌, cond, List, ◌≡◌, ℕ, ◌*◌, leb, eqb, Result, Ok, Err}
+use Rattle.refusals.specs.declared.Refusal.{Refusal}
+use Rattle.refusals.specs.Refusal.{code_of}
 use Rattle.surface.specs.declared.Drawn.{Drawn}
 use Rattle.surface.specs.declared.Advance.{Advance}
 
@@ -21,6 +23,16 @@ refusal width height len = refusal_for (side width && side height) width height 
 -- the same with a source
 abbrev pub refusal_from : (width height src-w src-h len : ℕ) → ℕ
 refusal_from width height src-w src-h len = refusal_for ((side width && side height) && (source_side src-w && source_side src-h)) width height len
+
+-- the answer of a drawing: the refusal's number, or 0 and whether it made a dirty mark
+abbrev pub drawn : Result Bool Refusal → Drawn
+drawn (Ok marked) = record { refusal = 0; marked = marked }
+drawn (Err r) = record { refusal = code_of r; marked = false }
+
+-- the answer of a text: the refusal's number, or 0 and its advance
+abbrev pub advanced : Result ℕ Refusal → Advance
+advanced (Ok advance) = record { refusal = 0; advance = advance }
+advanced (Err r) = record { refusal = code_of r; advance = 0 }
 
 -- the bytes after an operation: a refusal changes none
 abbrev pub unless_refused : ℕ → (new old : List ℕ) → List ℕ

@@ -25,7 +25,7 @@ pub fn ravinefork_fill_rect(
         width,
         height,
     };
-    surface_operations::fill_rect(s, x, y, w, h, color)
+    surface_operations::fill_rect(s, x, y, w, h, color).into()
 }
 
 // fill::fill_rect_rop
@@ -47,7 +47,7 @@ pub fn ravinefork_fill_rect_rop(
         width,
         height,
     };
-    surface_operations::fill_rect_rop(s, x, y, w, h, pat, rop)
+    surface_operations::fill_rect_rop(s, x, y, w, h, pat, rop).into()
 }
 
 // outline::stroke_rect
@@ -68,7 +68,7 @@ pub fn ravinefork_stroke_rect(
         width,
         height,
     };
-    surface_operations::stroke_rect(s, x, y, w, h, color)
+    surface_operations::stroke_rect(s, x, y, w, h, color).into()
 }
 
 // blit::blit_from_bytes_rop
@@ -95,7 +95,9 @@ pub fn ravinefork_blit_from_bytes_rop(
         width,
         height,
     };
-    surface_operations::blit_from_bytes_rop(s, dx, dy, sx, sy, w, h, src, src_w, src_h, rop, pat)
+    surface_operations::blit_from_bytes_rop(
+        s, dx, dy, sx, sy, w, h, src, src_w, src_h, rop, pat,
+    ).into()
 }
 
 // text::draw_char
@@ -115,7 +117,7 @@ pub fn ravinefork_draw_char(
         width,
         height,
     };
-    surface_operations::draw_char(s, x, y, ch, color)
+    surface_operations::draw_char(s, x, y, ch, color).into()
 }
 
 // text::draw_str_u16
@@ -135,5 +137,5 @@ pub fn ravinefork_draw_str_u16(
         width,
         height,
     };
-    surface_operations::draw_str_u16(s, x, y, units, color)
+    surface_operations::draw_str_u16(s, x, y, units, color).into()
 }

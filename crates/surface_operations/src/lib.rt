@@ -5,17 +5,30 @@ ghost use Rattle.fill.specs.Fill.{FillRect, FillRectRop};
 ghost use Rattle.outline.specs.Outline.{StrokeRect};
 ghost use Rattle.blit.specs.Blit.{BlitBytes};
 ghost use Rattle.text.specs.Ink.{DrawChar, DrawStr};
+ghost use Rattle.surface.specs.Refusal.{drawn, advanced};
 ghost use Rattle.surface_struct.specs.On.{On};
 
 use color::Rgb565;
-use surface::{Advance, Drawn};
+use refusals::Refusal;
 pub use surface_struct::Surface;
 
 // Fills the w by h pixels at x, y with one colour.
-pub fn fill_rect<'a>(s: Surface<'a>, x: i32, y: i32, w: i32, h: i32, color: Rgb565) -> Drawn
-    ensures { On s.entry (FillRect x y w h color.0) result s.exit.0.now }
+pub fn fill_rect<'a>(
+    s: Surface<'a>,
+    x: i32,
+    y: i32,
+    w: i32,
+    h: i32,
+    color: Rgb565,
+) -> Result<bool, Refusal>
+    ensures { On s.entry (FillRect x y w h color.0) (drawn result) s.exit.0.now }
 {
-    fill::fill_rect(&mut *s.pixels, s.width, s.height, x, y, w, h, color)
+    let Surface {
+        pixels,
+        width,
+        height,
+    } = s;
+    fill::fill_rect(pixels, width, height, x, y, w, h, color)
 }
 
 // Combines pattern and destination under a raster code at the w by h pixels at x, y. The source operand is 0.
@@ -27,17 +40,34 @@ pub fn fill_rect_rop<'a>(
     h: i32,
     pat: Rgb565,
     rop: u32,
-) -> Drawn
-    ensures { On s.entry (FillRectRop x y w h pat.0 rop) result s.exit.0.now }
+) -> Result<bool, Refusal>
+    ensures { On s.entry (FillRectRop x y w h pat.0 rop) (drawn result) s.exit.0.now }
 {
-    fill::fill_rect_rop(&mut *s.pixels, s.width, s.height, x, y, w, h, pat, rop)
+    let Surface {
+        pixels,
+        width,
+        height,
+    } = s;
+    fill::fill_rect_rop(pixels, width, height, x, y, w, h, pat, rop)
 }
 
 // Draws the outline of the w by h pixels at x, y, one pixel thick.
-pub fn stroke_rect<'a>(s: Surface<'a>, x: i32, y: i32, w: i32, h: i32, color: Rgb565) -> Drawn
-    ensures { On s.entry (StrokeRect x y w h color.0) result s.exit.0.now }
+pub fn stroke_rect<'a>(
+    s: Surface<'a>,
+    x: i32,
+    y: i32,
+    w: i32,
+    h: i32,
+    color: Rgb565,
+) -> Result<bool, Refusal>
+    ensures { On s.entry (StrokeRect x y w h color.0) (drawn result) s.exit.0.now }
 {
-    outline::stroke_rect(&mut *s.pixels, s.width, s.height, x, y, w, h, color)
+    let Surface {
+        pixels,
+        width,
+        height,
+    } = s;
+    outline::stroke_rect(pixels, width, height, x, y, w, h, color)
 }
 
 // Blits the w by h pixels at sx, sy of src to dx, dy under a raster code.
@@ -54,37 +84,51 @@ pub fn blit_from_bytes_rop<'a>(
     src_h: u32,
     rop: u32,
     pat: Rgb565,
-) -> Drawn
-    ensures { On s.entry (BlitBytes dx dy sx sy w h src.now src_w src_h rop pat.0) result s.exit.0.now }
+) -> Result<bool, Refusal>
+    ensures { On s.entry (BlitBytes dx dy sx sy w h src.now src_w src_h rop pat.0) (drawn result) s.exit.0.now }
 {
+    let Surface {
+        pixels,
+        width,
+        height,
+    } = s;
     blit::blit_from_bytes_rop(
-        &mut *s.pixels,
-        s.width,
-        s.height,
-        dx,
-        dy,
-        sx,
-        sy,
-        w,
-        h,
-        src,
-        src_w,
-        src_h,
-        rop,
-        pat,
+        pixels, width, height, dx, dy, sx, sy, w, h, src, src_w, src_h, rop, pat,
     )
 }
 
 // Draws the character ch with its upper left corner at x, y.
-pub fn draw_char<'a>(s: Surface<'a>, x: i32, y: i32, ch: u32, color: Rgb565) -> Drawn
-    ensures { On s.entry (DrawChar x y ch color.0) result s.exit.0.now }
+pub fn draw_char<'a>(
+    s: Surface<'a>,
+    x: i32,
+    y: i32,
+    ch: u32,
+    color: Rgb565,
+) -> Result<bool, Refusal>
+    ensures { On s.entry (DrawChar x y ch color.0) (drawn result) s.exit.0.now }
 {
-    text::draw_char(&mut *s.pixels, s.width, s.height, x, y, ch, color)
+    let Surface {
+        pixels,
+        width,
+        height,
+    } = s;
+    text::draw_char(pixels, width, height, x, y, ch, color)
 }
 
 // Draws the text before unit 0 or the end, with its upper left corner at x, y.
-pub fn draw_str_u16<'a>(s: Surface<'a>, x: i32, y: i32, units: &[u16], color: Rgb565) -> Advance
-    ensures { On s.entry (DrawStr x y units.now color.0) result s.exit.0.now }
+pub fn draw_str_u16<'a>(
+    s: Surface<'a>,
+    x: i32,
+    y: i32,
+    units: &[u16],
+    color: Rgb565,
+) -> Result<u32, Refusal>
+    ensures { On s.entry (DrawStr x y units.now color.0) (advanced result) s.exit.0.now }
 {
-    text::draw_str_u16(&mut *s.pixels, s.width, s.height, x, y, units, color)
+    let Surface {
+        pixels,
+        width,
+        height,
+    } = s;
+    text::draw_str_u16(pixels, width, height, x, y, units, color)
 }

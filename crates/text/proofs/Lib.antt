@@ -1,4 +1,4 @@
-pub mod Answer
+pub mod Drawn
 pub mod Reach
 pub mod Text
 pub mod Units

@@ -4,12 +4,13 @@
 ghost use Rattle.std.specs.Prelude.{◌≡◌, ◌≤◌, ◌<◌, length};
 ghost use Rattle.words.specs.Words.{painted};
 ghost use Rattle.surface.specs.Region.{words_of};
+ghost use Rattle.surface.specs.Refusal.{drawn, advanced};
 ghost use Rattle.surface.proofs.Accepted.{InOrder};
 ghost use Rattle.text.specs.Ink.{printable, glyph_for, text_ink, unit_count, DrawChar, DrawStr};
 ghost use Rattle.text.specs.Inner.{Reached};
 
 use color::Rgb565;
-use surface::{Advance, Drawn};
+use refusals::Refusal;
 
 // The longest text, in units.
 pub const MAX_UNITS: usize = 65535;
@@ -18,6 +19,7 @@ pub const MAX_UNITS: usize = 65535;
 pub const GLYPH_W: u32 = 6;
 
 // Draws the character ch with its upper left corner at x, y; nothing outside 0x20 to 0x7E. It makes no dirty mark.
+#[tactic(auto, using(surface::proofs::Accepted::in_order))]
 pub fn draw_char(
     pixels: &mut [u8],
     width: u32,
@@ -26,28 +28,20 @@ pub fn draw_char(
     y: i32,
     ch: u32,
     color: Rgb565,
-) -> Drawn
-    ensures { DrawChar x y ch color.0 width height pixels.old result pixels.new }
+) -> Result<bool, Refusal>
+    ensures { DrawChar x y ch color.0 width height pixels.old (drawn result) pixels.new }
 {
-    let number = surface::refusal(width, height, pixels.len());
-    if number == 0 {
-        if is_printable(ch) {
-            let rows = font_table::glyph((ch - 0x20) as usize);
-            glyph::draw_glyph(pixels, width, height, x, 0, y, rows, color.0);
-        }
-        return Drawn {
-            refusal: 0,
-            marked: false,
-        };
+    surface::check(width, height, pixels.len())?;
+    if is_printable(ch) {
+        let rows = font_table::glyph((ch - 0x20) as usize);
+        glyph::draw_glyph(pixels, width, height, x, 0, y, rows, color.0);
     }
-    Drawn {
-        refusal: number,
-        marked: false,
-    }
+    Ok(false)
 }
 
 // Draws the text before unit 0 or the end, with its upper left corner at x, y. Units outside 0x20 to 0x7E are drawn as '?'. It makes
 // no dirty mark and returns its advance.
+#[tactic(auto, using(surface::proofs::Accepted::in_order), unfolding(crate::specs::Ink::text_refusal))]
 pub fn draw_str_u16(
     pixels: &mut [u8],
     width: u32,
@@ -56,43 +50,23 @@ pub fn draw_str_u16(
     y: i32,
     s: &[u16],
     color: Rgb565,
-) -> Advance
-    ensures { DrawStr x y s.now color.0 width height pixels.old result pixels.new }
+) -> Result<u32, Refusal>
+    ensures { DrawStr x y s.now color.0 width height pixels.old (advanced result) pixels.new }
 {
-    let number = surface::refusal(width, height, pixels.len());
-    if number == 0 {
-        let n = unit_count(s);
-        if n <= MAX_UNITS {
-            draw_units(pixels, width, height, x, y, s, n, color);
-            let advance = GLYPH_W * (n as u32);
-            return Advance {
-                refusal: 0,
-                advance,
-            };
-        }
-        return Advance {
-            refusal: refusals::TEXT_TOO_LONG,
-            advance: 0,
-        };
+    surface::check(width, height, pixels.len())?;
+    let n = unit_count(s);
+    if MAX_UNITS < n {
+        return Err(Refusal::TextTooLong);
     }
-    Advance {
-        refusal: number,
-        advance: 0,
-    }
+    draw_units(pixels, width, height, x, y, s, n, color);
+    Ok(GLYPH_W * (n as u32))
 }
 
 // Returns the number of units before unit 0 or the end.
 pub fn unit_count(s: &[u16]) -> usize
     ensures { (result ≡ unit_count s.now) × (result ≤ length s.now) }
 {
-    let mut i = 0;
-    while i < s.len() {
-        if s[i] == 0 {
-            return i;
-        }
-        i += 1;
-    }
-    i
+    s.iter().position(|u| *u == 0).unwrap_or(s.len())
 }
 
 // Draws the first n units of s on a surface whose sides and length were checked.
@@ -115,13 +89,10 @@ pub fn draw_units(
         return;
     }
     let units = units_reached(x, width, n as u32);
-    let k0 = units.from as usize;
-    let k1 = units.to as usize;
     let glyphs = font_table::glyphs();
-    for k in k0..k1 {
-        let rows = glyphs[glyph_for(s[k])];
-        let dx = GLYPH_W * (k as u32);
-        glyph::draw_glyph(pixels, width, height, x, dx, y, rows, color.0);
+    for k in units.from..units.to {
+        let rows = glyphs[glyph_for(s[k as usize])];
+        glyph::draw_glyph(pixels, width, height, x, GLYPH_W * k, y, rows, color.0);
     }
 }
 
@@ -130,11 +101,11 @@ fn units_reached(x: i32, width: u32, n: u32) -> clip::Span
     requires { n ≤ 65535 }
     ensures { Reached x width n result }
 {
-    let start = x as i64;
+    let start = i64::from(x);
     let advance = GLYPH_W * n;
     clip::Span {
-        from: clip::clamp(0 - start, advance) / GLYPH_W,
-        to: clip::clamp(width as i64 - start + 5, advance) / GLYPH_W,
+        from: clip::clamp(-start, advance) / GLYPH_W,
+        to: clip::clamp(i64::from(width) - start + 5, advance) / GLYPH_W,
     }
 }
 
@@ -142,18 +113,16 @@ fn units_reached(x: i32, width: u32, n: u32) -> clip::Span
 fn is_printable(u: u32) -> bool
     ensures { result ≡ printable u }
 {
-    if u < 0x20 {
-        return false;
-    }
-    u <= 0x7E
+    0x20 <= u && u <= 0x7E
 }
 
 // Returns the glyph of a unit; outside 0x20 to 0x7E it is that of '?'.
 fn glyph_for(u: u16) -> usize
     ensures { (result ≡ glyph_for u) × (result < 95) }
 {
-    if is_printable(u as u32) {
-        return (u - 0x20) as usize;
+    if is_printable(u32::from(u)) {
+        (u - 0x20) as usize
+    } else {
+        0x3F - 0x20
     }
-    0x3F - 0x20
 }

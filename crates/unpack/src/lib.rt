@@ -37,11 +37,12 @@ const HANDLE_BIT: usize = 3;
 const FIELDS_BIT: usize = 35;
 
 // Returns whether the first n bits are there.
+#[tactic(auto, using(bits::proofs::Bytes::length_bits, std::proofs::lemmas::Bool::Decides::nat_tests))]
 fn has_bits(bytes: &[u8], n: usize) -> bool
     requires { n < 2 ^ 32 }
     ensures { result ≡ leb n (length (bits_of bytes.now)) }
 {
-    (n + 7) / 8 <= bytes.len()
+    n.div_ceil(8) <= bytes.len()
 }
 
 // Returns whether the bytes are long enough for the fields that they announce.
@@ -56,13 +57,11 @@ pub fn is_complete(bytes: &[u8]) -> bool
         return false;
     }
     let mut at = OBJECTS_BIT;
-    let mut i: u32 = 0;
-    while i < n {
+    for _ in 0..n {
         if !has_bits(bytes, at + FIELDS_BIT) {
             return false;
         }
         at += FIELDS_BIT + saved_table::object_bits(bits::field_at(bytes, at, KIND_BITS));
-        i += 1;
     }
     has_bits(bytes, at)
 }
@@ -129,12 +128,9 @@ fn read_slots(bytes: &[u8], n: u32, numbers: &mut [u32])
     ensures { SlotsRead (bits_of bytes.now) n numbers.old numbers.new }
 {
     let mut at = OBJECTS_BIT;
-    let mut i: usize = 0;
-    while i < n as usize {
+    for i in 0..n as usize {
         let p = SLOTS + SLOT * i;
-        let e = p + SLOT;
-        at = read_slot(bytes, at, &mut numbers[p..e]);
-        i += 1;
+        at = read_slot(bytes, at, &mut numbers[p..p + SLOT]);
     }
 }
 

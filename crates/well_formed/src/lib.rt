@@ -12,19 +12,14 @@ use numbers::{
 };
 
 // Returns whether the numbers before the slots are well formed.
+#[tactic(auto, unfolding(crate::specs::Inner::is_head))]
 pub fn is_head(numbers: &[u32]) -> bool
     ensures { result ≡ is_head numbers.now }
 {
-    if numbers.len() != RECORD {
-        return false;
-    }
-    if numbers[STOCK_DIRTY] > 1 {
-        return false;
-    }
-    if numbers[COUNT] > 256 {
-        return false;
-    }
-    is_dc(&numbers[SCREEN..SLOTS])
+    numbers.len() == RECORD
+        && numbers[STOCK_DIRTY] <= 1
+        && numbers[COUNT] <= 256
+        && is_dc(&numbers[SCREEN..SLOTS])
 }
 
 // Returns whether the numbers are a slot.
@@ -36,18 +31,14 @@ pub fn is_slot(numbers: &[u32]) -> bool
 }
 
 // Returns whether the numbers are an object of this kind.
+#[tactic(auto, unfolding(numbers::specs::Block::is_object))]
 fn is_object(kind: u32, numbers: &[u32]) -> bool
     requires { object_size ≤ length numbers.now }
     ensures { result ≡ is_object kind numbers.now }
 {
     match kind {
         0 => is_dc(numbers),
-        1 => {
-            if numbers[DIRTY_IN] > 1 {
-                return false;
-            }
-            zeros_from(numbers, BITMAP_SIZE)
-        }
+        1 => numbers[DIRTY_IN] <= 1 && zeros_from(numbers, BITMAP_SIZE),
         2 => zeros_from(numbers, BRUSH_SIZE),
         3 => zeros_from(numbers, PEN_SIZE),
         4 => zeros_from(numbers, FONT_SIZE),
@@ -55,23 +46,14 @@ fn is_object(kind: u32, numbers: &[u32]) -> bool
     }
 }
 
+#[tactic(auto, unfolding(numbers::specs::Block::is_dc))]
 fn is_dc(numbers: &[u32]) -> bool
     requires { dc_size ≤ length numbers.now }
     ensures { result ≡ is_dc numbers.now }
 {
-    if numbers[SURFACE] > 1 {
-        return false;
-    }
-    if numbers[BK_TRANSPARENT] > 1 {
-        return false;
-    }
-    if numbers[BITMAP_PRESENT] == 1 {
-        return true;
-    }
-    if numbers[BITMAP_PRESENT] != 0 {
-        return false;
-    }
-    numbers[BITMAP] == 0
+    numbers[SURFACE] <= 1
+        && numbers[BK_TRANSPARENT] <= 1
+        && (numbers[BITMAP_PRESENT] == 1 || numbers[BITMAP_PRESENT] == 0 && numbers[BITMAP] == 0)
 }
 
 // Returns whether an object's numbers from k on are 0: tested by combining all bits, without early exit, which is faster.
@@ -79,11 +61,5 @@ fn zeros_from(numbers: &[u32], k: usize) -> bool
     requires { (k ≤ object_size) × (object_size ≤ length numbers.now) }
     ensures { result ≡ zeros_from numbers.now k }
 {
-    let mut bits: u32 = 0;
-    let mut i = k;
-    while i < OBJECT_SIZE {
-        bits |= numbers[i];
-        i += 1;
-    }
-    bits == 0
+    numbers[k..OBJECT_SIZE].iter().fold(0, |bits, n| bits | *n) == 0
 }

@@ -1,6 +1,6 @@
 use mathlib.Core.List.{List, ◌++◌}
 use mathlib.Core.Path.{◌≡◌}
-use Prim.Native.Nat.{ℕ, ◌+◌, ◌-◌, ◌≤◌}
+use Prim.Native.Nat.{ℕ, ◌+◌, ◌≤◌}
 use lib.ListN.{length, take, drop}
 use Rattle.bits.specs.Bits.{bits_of, numbers_in, total}
 use Rattle.bits.proofs.read_fields.Given as goal
@@ -14,6 +14,3 @@ pub record Left (bs : List ℕ) (at : ℕ) (ws values₀ values : List ℕ) (p i
 
 abbrev pub invariant-loop-i : goal.invariant-loop-i
 invariant-loop-i l = Left (bits_of l.s) l.at l.widths l.initial.values l.values l.p l.i
-
-abbrev pub decreases-loop-i : goal.decreases-loop-i
-decreases-loop-i l = length l.widths - l.i

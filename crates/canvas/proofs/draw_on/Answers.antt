@@ -1,6 +1,7 @@
 -- `canvas::draw_on` meets its contract. Assumes nothing.
+use mathlib.Core.Path.{◌∙◌}
 use borrow.Author.Rules.{rules}
-use Rattle.canvas.proofs.Drawn.{as_fill, as_outline, as_text, as_line, near, countable}
+use Rattle.canvas.proofs.Drawn.{marked_or, as_fill, as_outline, as_text, as_line, near, countable}
 use Rattle.canvas.proofs.draw_on.Goals as goal
 
 pub draw_units-requires : goal.draw_units-requires
@@ -23,16 +24,16 @@ returns-in-Fill c =
     let a = c.args in
     let r = as_fill a.units.now a.color.0 a.width a.height a.pixels.now c.requires.in_order
     (search rules) (search rules) (search rules) (search rules)
-    c.in-Fill.is c.fill_rect_rop-d.ensures in
-    record { value = r.0; bytes = r.1 }
+    c.in-Fill.is c.fill_rect_rop.ensures in
+    record { value = c.unwrap_or.ensures ∙ marked_or c.fill_rect_rop.result ∙ r.0; bytes = r.1 }
 
 pub returns-in-Outline : goal.returns-in-Outline
 returns-in-Outline c =
     let a = c.args in
     let r = as_outline a.units.now a.color.0 a.width a.height a.pixels.now c.requires.in_order
     (search rules) (search rules) (search rules) (search rules)
-    (search rules) c.in-Outline.is c.stroke_rect-d.ensures in
-    record { value = r.0; bytes = r.1 }
+    (search rules) c.in-Outline.is c.stroke_rect.ensures in
+    record { value = c.unwrap_or-in-Outline.ensures ∙ marked_or c.stroke_rect.result ∙ r.0; bytes = r.1 }
 
 pub returns-in-Text : goal.returns-in-Text
 returns-in-Text c =

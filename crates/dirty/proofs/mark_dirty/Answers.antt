@@ -19,17 +19,17 @@ pub mark_slot-requires : goal.mark_slot-requires
 mark_slot-requires c =
     record {
       numbers_value = c.requires.numbers_value;
-      i_bound = found_in _ _ (slot_found (view c.args.numbers.now) c.in-Bitmap.is c.if-h.false c.requires.slot_value c.in-At.is);
+      i_bound = found_in _ _ (slot_found (view c.args.numbers.now) c.in-Bitmap.is c.if-h.false c.requires.slot_value c.in-Some.is);
     }
 
 pub returns-in-Panel : goal.returns-in-Panel
 returns-in-Panel c =
     updated_as (mark_panel (view c.args.numbers.now) c.in-Panel.is refl) c.count_frame.ensures
 
-pub returns-in-At : goal.returns-in-At
-returns-in-At c =
-    updated_as (mark_found (view c.args.numbers.now) c.in-Bitmap.is c.if-h.false (slot_found (view c.args.numbers.now) c.in-Bitmap.is c.if-h.false c.requires.slot_value c.in-At.is) refl) c.mark_slot.ensures
+pub returns-in-Some : goal.returns-in-Some
+returns-in-Some c =
+    updated_as (mark_found (view c.args.numbers.now) c.in-Bitmap.is c.if-h.false (slot_found (view c.args.numbers.now) c.in-Bitmap.is c.if-h.false c.requires.slot_value c.in-Some.is) refl) c.mark_slot.ensures
 
-pub returns-in-Nothing : goal.returns-in-Nothing
-returns-in-Nothing c =
-    updated_as (mark_none (view c.args.numbers.now) c.in-Bitmap.is c.if-h.false (slot_found (view c.args.numbers.now) c.in-Bitmap.is c.if-h.false c.requires.slot_value c.in-Nothing.is)) (updated_same c.requires.numbers_value)
+pub returns-in_default : goal.returns-in_default
+returns-in_default c =
+    updated_as (mark_none (view c.args.numbers.now) c.in-Bitmap.is c.if-h.false (slot_found (view c.args.numbers.now) c.in-Bitmap.is c.if-h.false c.requires.slot_value c.in_default.is)) (updated_same c.requires.numbers_value)

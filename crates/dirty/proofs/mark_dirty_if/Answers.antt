@@ -6,6 +6,6 @@ pub returns-then-due : goal.returns-then-due
 returns-then-due c =
     due_updated _ _ c.if-due.true c.mark_dirty.ensures
 
-pub returns : goal.returns
-returns c =
+pub returns-else-due : goal.returns-else-due
+returns-else-due c =
     undue_updated _ _ c.requires.numbers_value c.if-due.false

@@ -39,6 +39,6 @@ pub returns-then-numbers-p-eq1 : goal.returns-then-numbers-p-eq1
 returns-then-numbers-p-eq1 c =
     bitmap_set _ c.requires.numbers_value _ c.requires.i_bound c.if-numbers-p-eq1.true
 
-pub returns : goal.returns
-returns c =
+pub returns-else-numbers-p-eq1 : goal.returns-else-numbers-p-eq1
+returns-else-numbers-p-eq1 c =
     other_kept _ c.requires.numbers_value _ c.requires.i_bound c.if-numbers-p-eq1.false

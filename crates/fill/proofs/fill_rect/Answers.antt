@@ -1,11 +1,13 @@
 -- `fill::fill_rect` meets its contract: that of `fill_rect_rop` at PATCOPY's code. Assumes nothing.
-use native.Mathlib.Omega.{arith}
-use Rattle.arithmetic.proofs.Machine.{stored32}
+use Rattle.std.proofs.Common.{rules, arith}
+use Rattle.surface.specs.Refusal.{drawn}
+use Rattle.fill.specs.Fill.{FillRectRop}
 use Rattle.fill.proofs.Box.{patcopy_filled}
 use Rattle.fill.proofs.fill_rect.Goals as goal
 
+-- PATCOPY's table gives the colour, whatever was there
 pub returns : goal.returns
 returns c =
     let a = c.args in
-    patcopy_filled a.x a.y a.w a.h a.color.0 a.width a.height a.pixels.now (omega (arith, c.well_formed))
-    (rw (stored32 a.x c.ranges.x, stored32 a.y c.ranges.y, stored32 a.w c.ranges.w, stored32 a.h c.ranges.h) at c.fill_rect_rop.ensures)
+    let rop : FillRectRop a.x a.y a.w a.h a.color.0 0xF00021 a.width a.height a.pixels.now (drawn c.fill_rect_rop.result) c.fill_rect_rop.new.pixels = search rules in
+    patcopy_filled a.x a.y a.w a.h a.color.0 a.width a.height a.pixels.now (omega arith) rop

@@ -1,5 +1,5 @@
 -- `handles::append` meets its contract. Assumes nothing.
-use Rattle.std.proofs.Common.{arith, length-set}
+use Rattle.std.proofs.Common.{refl, arith, length-set}
 use Rattle.numbers.proofs.Seen.{record_length}
 use Rattle.handles.proofs.Grown.{room, back_long, appended}
 use Rattle.handles.proofs.append.Goals as goal
@@ -25,4 +25,4 @@ bounds-numbers-8-2 c =
 pub returns : goal.returns
 returns c =
     let p = c.requires in
-    appended _ p.numbers_value p.count_place_bound c.put_slot.new.numbers c.put_slot.auto.numbers c.wrapping_add_u32.ensures.value c.put_slot.ensures
+    appended _ p.numbers_value p.count_place_bound c.put_slot.new.numbers c.put_slot.auto.numbers refl c.put_slot.ensures

@@ -1,23 +1,26 @@
 -- `handles::is_free` meets its contract. Assumes nothing.
-use Rattle.std.proofs.Common.{sym, ◌∙◌}
-use Rattle.handles.proofs.Absent.{found_live, not_found_absent}
+use Rattle.std.proofs.Common.{◌≡◌, Bool, true, false, not, sym, ap, ◌∙◌, is_none, arith, eq-eqb}
+use Rattle.handles.proofs.Absent.{nothing_found}
 use Rattle.handles.proofs.Search.{zero_taken, stock_taken, by_absent}
 use Rattle.handles.proofs.is_free.Goals as goal
+use Rattle.handles.proofs.is_free.Goals.{then-handle-ne0, else-handle-ne0}
 
-pub returns-then-handle-eq0 : goal.returns-then-handle-eq0
-returns-then-handle-eq0 c =
-    zero_taken _ _ _ c.if-handle-eq0.true
+pub returns-then-not-is_stock_handle : goal.returns-then-not-is_stock_handle
+returns-then-not-is_stock_handle c =
+    elim c.if-handle-ne0.branch [
+      | then-handle-ne0 w ↦
+          let stock : w.is_stock_handle.result ≡ false = grind (arith, w.value-is, c.if-not-is_stock_handle.true) in
+          by_absent _ _ _ w.if-handle-ne0.true (sym w.is_stock_handle.ensures ∙ stock)
+          (let found : c.is_none.result ≡ is_none c.find.result = grind (arith, c.is_none.ensures) in
+          found ∙ ap is_none c.find.ensures ∙ nothing_found _ _ _)
+      | else-handle-ne0 w ↦ absurd (grind (arith, w.value-is, c.if-not-is_stock_handle.true, eq-eqb c.args.handle 0 w.if-handle-ne0.false))
+    ]
 
-pub returns-then-is_stock_handle : goal.returns-then-is_stock_handle
-returns-then-is_stock_handle c =
-    stock_taken _ _ _ c.if-handle-eq0.false (sym c.is_stock_handle.ensures ∙ c.if-is_stock_handle.true)
-
-pub returns-in-At : goal.returns-in-At
-returns-in-At c =
-    by_absent _ _ _ c.if-handle-eq0.false (sym c.is_stock_handle.ensures ∙ c.if-is_stock_handle.false)
-    (found_live _ _ _ (sym c.find.ensures ∙ c.in-At.is))
-
-pub returns-in-Nothing : goal.returns-in-Nothing
-returns-in-Nothing c =
-    by_absent _ _ _ c.if-handle-eq0.false (sym c.is_stock_handle.ensures ∙ c.if-is_stock_handle.false)
-    (not_found_absent _ _ _ (sym c.find.ensures ∙ c.in-Nothing.is))
+pub returns-else-not-is_stock_handle : goal.returns-else-not-is_stock_handle
+returns-else-not-is_stock_handle c =
+    c.if-not-is_stock_handle.false ∙ elim c.if-handle-ne0.branch [
+      | then-handle-ne0 w ↦
+          let stock : w.is_stock_handle.result ≡ true = grind (arith, w.value-is, c.if-not-is_stock_handle.false) in
+          stock_taken _ _ _ w.if-handle-ne0.true (sym w.is_stock_handle.ensures ∙ stock)
+      | else-handle-ne0 w ↦ zero_taken _ _ _ w.if-handle-ne0.false
+    ]

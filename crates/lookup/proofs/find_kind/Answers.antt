@@ -7,21 +7,21 @@ use Rattle.lookup.proofs.find_kind.Goals as goal
 
 pub overflow_mul-i : goal.overflow_mul-i
 overflow_mul-i c =
-    omega (arith, found_room _ c.requires _ c.find.ensures c.in-At.is)
+    omega (arith, found_room _ c.requires _ c.find.ensures c.in-Some.is)
 
 pub overflow_add-i : goal.overflow_add-i
 overflow_add-i c =
-    omega (arith, found_room _ c.requires _ c.find.ensures c.in-At.is)
+    omega (arith, found_room _ c.requires _ c.find.ensures c.in-Some.is)
 
 pub kind_at-requires : goal.kind_at-requires
 kind_at-requires c =
-    omega (arith, found_room _ c.requires _ c.find.ensures c.in-At.is)
+    omega (arith, found_room _ c.requires _ c.find.ensures c.in-Some.is)
 
-pub returns-in-At : goal.returns-in-At
-returns-in-At c =
-    found_kind _ c.requires _ c.find.ensures c.in-At.is c.kind_at.ensures
+pub returns-in-Some : goal.returns-in-Some
+returns-in-Some c =
+    found_kind _ c.requires _ c.find.ensures c.in-Some.is c.kind_at.ensures
 
-pub returns-in-Nothing : goal.returns-in-Nothing
+pub returns-in-None : goal.returns-in-None
 unfolding kind_of
-returns-in-Nothing c =
-    rw (sym c.find.ensures ∙ c.in-Nothing.is) c.stock_kind.ensures
+returns-in-None c =
+    rw (sym c.find.ensures ∙ c.in-None.is) c.stock_kind.ensures

@@ -1,4 +1,4 @@
--- `dirty::store_dc` meets its contract. Assumes nothing.
+-- `lookup::update_dc` meets its contract. Assumes nothing.
 use native.Mathlib.Omega.{arith}
 use Rattle.numbers.proofs.Seen.{record_length}
 use Rattle.lookup.proofs.Updates.{spot_room, updated_screen, updated_created}
@@ -16,16 +16,16 @@ pub overflow_add-p : goal.overflow_add-p
 overflow_add-p c =
     omega (arith, spot_room _ c.requires.numbers_value _ c.requires.has_dc c.in-Created.is)
 
-pub overflow_add-first : goal.overflow_add-first
-overflow_add-first c =
+pub overflow_add-p-in-Created : goal.overflow_add-p-in-Created
+overflow_add-p-in-Created c =
     omega (arith, spot_room _ c.requires.numbers_value _ c.requires.has_dc c.in-Created.is)
 
-pub overflow_add-end : goal.overflow_add-end
-overflow_add-end c =
+pub overflow_add-p-in-Created-2 : goal.overflow_add-p-in-Created-2
+overflow_add-p-in-Created-2 c =
     omega (arith, spot_room _ c.requires.numbers_value _ c.requires.has_dc c.in-Created.is)
 
-pub offset_bounds-numbers-first : goal.offset_bounds-numbers-first
-offset_bounds-numbers-first c =
+pub offset_bounds-numbers-p : goal.offset_bounds-numbers-p
+offset_bounds-numbers-p c =
     omega (arith, spot_room _ c.requires.numbers_value _ c.requires.has_dc c.in-Created.is)
 
 pub slice_bounds-put_dc-end-in-Created : goal.slice_bounds-put_dc-end-in-Created

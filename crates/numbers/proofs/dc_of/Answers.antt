@@ -8,8 +8,8 @@ pub returns : goal.returns
 unfolding dc_fields
 returns c =
     rw (
-      c.surface_of-surface.ensures,
-      c.bitmap_of-bitmap.ensures,
-      stored32 c.signed-x.result (record { sfits = c.signed-x.type_inv }) ∙ c.signed-x.ensures,
-      stored32 c.signed-y.result (record { sfits = c.signed-y.type_inv }) ∙ c.signed-y.ensures,
+      c.surface_of.ensures,
+      c.bitmap_of.ensures,
+      stored32 c.signed.result (record { sfits = c.signed.type_inv }) ∙ c.signed.ensures,
+      stored32 c.signed-2.result (record { sfits = c.signed-2.type_inv }) ∙ c.signed-2.ensures,
     )

@@ -10,7 +10,7 @@ use Rattle.numbers.proofs.object_of.Goals as goal
 pub returns-in-0 : goal.returns-in-0
 unfolding object_of
 returns-in-0 c =
-    rw (c.in-0.is, c.dc_of-d.ensures)
+    rw (c.in-0.is, c.dc_of.ensures)
 
 pub returns-in-1 : goal.returns-in-1
 unfolding object_of

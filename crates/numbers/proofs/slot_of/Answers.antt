@@ -3,4 +3,4 @@ use Rattle.numbers.proofs.slot_of.Goals as goal
 
 pub returns : goal.returns
 returns c =
-    rw c.object_of-o.ensures
+    rw c.object_of.ensures

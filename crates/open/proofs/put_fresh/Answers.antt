@@ -4,4 +4,4 @@ use Rattle.open.proofs.put_fresh.Goals as goal
 
 pub returns : goal.returns
 returns c =
-    fresh_put c.args.numbers.now c.put_head.new.numbers c.put_dc.new.numbers c.requires c.put_head.ensures c.screen_dc-d.ensures c.put_dc.auto.numbers c.put_dc.ensures
+    fresh_put c.args.numbers.now c.copy_from_slice.new.self c.put_dc.new.numbers c.requires c.copy_from_slice.ensures.after c.screen_dc.ensures c.put_dc.auto.numbers c.put_dc.ensures

@@ -2,8 +2,6 @@
 use Rattle.outline.proofs.Sides.{four_sides}
 use Rattle.outline.proofs.stroke_edges.Goals as goal
 
+-- the four sides are drawn one after another
 pub returns : goal.returns
-returns c =
-    let a = c.args in
-    four_sides a.width a.color a.x a.y a.pixels.now
-    c.stroke_side.ensures c.stroke_side-2.ensures c.stroke_side-3.ensures c.stroke_side-4.ensures
+returns c = four_sides c.args.width c.args.color c.args.x c.args.y c.args.pixels.now c.stroke_side.ensures c.stroke_side-2.ensures c.stroke_side-3.ensures c.stroke_side-4.ensures

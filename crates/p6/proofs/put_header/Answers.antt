@@ -1,31 +1,6 @@
 -- `p6::put_header` meets its contract: five pieces, one after the other. Assumes nothing.
-use native.Mathlib.Omega.{arith}
-use Rattle.p6.proofs.Decimal.{length_header, put_pieces}
+use Rattle.p6.proofs.Decimal.{put_pieces}
 use Rattle.p6.proofs.put_header.Goals as goal
-
-pub put_bytes-width_at-requires : goal.put_bytes-width_at-requires
-put_bytes-width_at-requires c =
-    omega (arith, length_header c.args.width c.args.height)
-
-pub put_decimal-space_at-requires : goal.put_decimal-space_at-requires
-put_decimal-space_at-requires c =
-    omega (arith, length_header c.args.width c.args.height)
-
-pub put_bytes-height_at-requires : goal.put_bytes-height_at-requires
-put_bytes-height_at-requires c =
-    omega (arith, length_header c.args.width c.args.height)
-
-pub put_decimal-end-requires : goal.put_decimal-end-requires
-put_decimal-end-requires c =
-    omega (arith, length_header c.args.width c.args.height)
-
-pub put_bytes-requires : goal.put_bytes-requires
-put_bytes-requires c =
-    omega (arith, length_header c.args.width c.args.height)
-
-pub returns-clause-value : goal.returns-clause-value
-returns-clause-value c =
-    omega (arith, length_header c.args.width c.args.height)
 
 pub returns-clause-bytes : goal.returns-clause-bytes
 returns-clause-bytes c =

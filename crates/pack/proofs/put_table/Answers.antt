@@ -1,86 +1,85 @@
--- `pack::put_table` meets its contract. The invariant: the first i objects are put behind the head. Assumes nothing.
-use mathlib.Core.Path.{◌≡◌, refl}
-use Prim.Native.Nat.{◌+◌, ◌-◌}
+-- `pack::put_table` meets its contract. The invariant: the objects so far are put behind the head. Assumes nothing.
+use mathlib.Core.Path.{◌≡◌, refl, ◌∙◌, ap}
 use native.Mathlib.Omega.{arith}
-use lib.ListN.{length, length-take, length-drop}
+use lib.ListN.{length}
 use borrow.Author.Rules.{rules}
-use Rattle.numbers.specs.Layout.{slot_size, slot_place}
+use Rattle.std.specs.Slice.Iter.{chunks_exact_rest, chunks_exact_size}
+use Rattle.std.proofs.lemmas.List.{length_push}
+use Rattle.numbers.specs.Layout.{count_place}
+use Rattle.numbers.specs.Block.{at}
 use Rattle.numbers.proofs.Record.{parts}
 use Rattle.saved_table.specs.Table.{slots_bits}
 use Rattle.pack.proofs.Puts.{put_none}
+use Rattle.pack.proofs.Chunks.{slots_long, all_left, next_slot, none_left}
 use Rattle.pack.proofs.Table.{few, inside, head_room, slot_good, slot_room, slot_next, table_put}
 use Rattle.pack.proofs.put_table.Goals as goal
 
-pub put_head-requires : goal.put_head-requires
-put_head-requires c =
-    record {
-      numbers_value = c.requires.numbers_value;
-      room = head_room c.args.numbers.now c.args.out.now c.requires.numbers_value c.requires.numbers_in_bounds;
-    }
+pub put_head-requires-clause-room : goal.put_head-requires-clause-room
+put_head-requires-clause-room c =
+    head_room c.args.numbers.now c.args.out.now c.requires.numbers_value c.requires.numbers_in_bounds
 
 pub bounds-numbers-8 : goal.bounds-numbers-8
 bounds-numbers-8 c =
     omega (arith, (parts c.args.numbers.now c.requires.numbers_value).long)
 
-pub overflow_cast-n : goal.overflow_cast-n
-overflow_cast-n c =
-    omega (arith, (parts c.args.numbers.now c.requires.numbers_value).few)
+pub slice_bounds-chunks_exact-end : goal.slice_bounds-chunks_exact-end
+slice_bounds-chunks_exact-end c =
+    omega (arith, slots_long c.args.numbers.now c.requires.numbers_value)
 
-pub loop-i-init : goal.loop-i-init
+pub loop-slot-init : goal.loop-slot-init
 unfolding slots_bits
-loop-i-init c =
-    let p = parts c.args.numbers.now c.requires.numbers_value in
-    (omega arith, (p.few, (p.long, (refl, put_none _ 425))))
-
-pub put_slot-at-requires : goal.put_slot-at-requires
-put_slot-at-requires c =
-    let a = c.args in
-    let l = c.loop-i in
-    let long : slot_place l.i + 16 - slot_place l.i ≡ slot_size = omega arith in
-    let n = slot_place l.i + 16 - slot_place l.i in
-    let same : length c.put_head.new.out ≡ length a.out.now = search rules in
-    let same' : length l.out ≡ length a.out.now = omega arith in
+loop-slot-init c =
+    let items = c.into_iter-slot-iterator.ensures.into_iter_gives in
     record {
-      numbers_len = simp (length-take, length-drop) (omega arith);
-      numbers_value = slot_good a.numbers.now a.out.now c.requires.numbers_value c.requires.numbers_in_bounds n long (omega arith) same same' l.invariant.1.1.1.1;
-      room = slot_room a.numbers.now a.out.now c.requires.numbers_value c.requires.numbers_in_bounds n long (omega arith) same same' l.invariant.1.1.1.1;
+      left = all_left c.args.numbers.now (at c.args.numbers.now count_place) (ap chunks_exact_rest items ∙ c.chunks_exact-slot-items.ensures.rest) (ap chunks_exact_size items ∙ c.chunks_exact-slot-items.ensures.size);
+      long = refl;
+      put = put_none _ 425;
     }
 
-pub loop-i-preserved : goal.loop-i-preserved
-loop-i-preserved c =
-    let a = c.args in
-    let l = c.loop-i in
-    let n = slot_place l.i + 16 - slot_place l.i in
-    let long : n ≡ slot_size = omega arith in
-    let same : length c.put_head.new.out ≡ length a.out.now = search rules in
-    let same' : length l.out ≡ length a.out.now = omega arith in (
-      omega arith,
-      (
-        l.invariant.1.0,
-        (
-          l.invariant.1.1.0,
-          (
-            search rules,
-            slot_next a.numbers.now a.out.now c.requires.numbers_value c.requires.numbers_in_bounds n long (omega arith) same same' l.invariant.1.1.1.1 c.put_slot-at.ensures,
-          ),
-        ),
-      ),
-    )
+pub put_slot-at-requires-clause-numbers_value : goal.put_slot-at-requires-clause-numbers_value
+put_slot-at-requires-clause-numbers_value c =
+    let l = c.args.numbers.now in
+    let r = c.requires.numbers_value in
+    let s = c.loop-slot in
+    let next = next_slot l (at l count_place) (slots_long l r) (length s.yielded) s.invariant.left c.in-Some.slot c.next.new.self c.in-Some.ensures.steps in
+    let same : length c.put_head.new.out ≡ length c.args.out.now = search rules in
+    slot_good l c.args.out.now r c.requires.numbers_in_bounds next.0 next.1.0 (s.invariant.long ∙ same) s.invariant.put
+
+pub put_slot-at-requires-clause-room : goal.put_slot-at-requires-clause-room
+put_slot-at-requires-clause-room c =
+    let l = c.args.numbers.now in
+    let r = c.requires.numbers_value in
+    let s = c.loop-slot in
+    let next = next_slot l (at l count_place) (slots_long l r) (length s.yielded) s.invariant.left c.in-Some.slot c.next.new.self c.in-Some.ensures.steps in
+    let same : length c.put_head.new.out ≡ length c.args.out.now = search rules in
+    slot_room l c.args.out.now r c.requires.numbers_in_bounds next.0 next.1.0 (s.invariant.long ∙ same) s.invariant.put
+
+pub loop-slot-preserved : goal.loop-slot-preserved
+loop-slot-preserved c =
+    let l = c.args.numbers.now in
+    let r = c.requires.numbers_value in
+    let s = c.loop-slot in
+    let next = next_slot l (at l count_place) (slots_long l r) (length s.yielded) s.invariant.left c.in-Some.slot c.next.new.self c.in-Some.ensures.steps in
+    let same : length c.put_head.new.out ≡ length c.args.out.now = search rules in
+    rw (length_push s.yielded c.in-Some.slot) (record {
+      left = next.1.1;
+      long = search rules;
+      put = slot_next l c.args.out.now r c.requires.numbers_in_bounds next.0 next.1.0 (s.invariant.long ∙ same) s.invariant.put same c.put_slot-at.ensures;
+    })
 
 pub fill_byte-requires : goal.fill_byte-requires
 fill_byte-requires c =
-    let a = c.args in
-    let l = c.loop-i in
-    let same : length c.put_head.new.out ≡ length a.out.now = search rules in
-    let h = inside a.numbers.now a.out.now c.requires.numbers_value c.requires.numbers_in_bounds l.i (omega arith) in
-    let k = few a.numbers.now a.out.now c.requires.numbers_value c.requires.numbers_in_bounds l.i (omega arith) in
-    (omega (arith, l.invariant.1.1.1.1.behind), omega (arith, l.invariant.1.1.1.1.behind))
+    let l = c.args.numbers.now in
+    let s = c.loop-slot in
+    let same : length c.put_head.new.out ≡ length c.args.out.now = search rules in
+    let h = inside l c.args.out.now c.requires.numbers_value c.requires.numbers_in_bounds (length s.yielded) s.invariant.left.few in
+    let k = few l c.args.out.now c.requires.numbers_value c.requires.numbers_in_bounds (length s.yielded) s.invariant.left.few in
+    (omega (arith, s.invariant.put.behind, s.invariant.long), omega (arith, s.invariant.put.behind))
 
 pub returns : goal.returns
 returns c =
-    let a = c.args in
-    let l = c.loop-i in
-    let same : length c.put_head.new.out ≡ length a.out.now = search rules in
-    table_put a.numbers.now a.out.now c.requires.numbers_value c.requires.numbers_in_bounds (omega arith) same
-    (λ k. omega (arith, c.slice_known-1.given k)) (λ k. omega (arith, c.slice_known-3-1.given k))
-    c.put_head.ensures l.invariant.1.1.1.1 c.fill_byte.ensures
+    let l = c.args.numbers.now in
+    let s = c.loop-slot in
+    let e = none_left l (at l count_place) (slots_long l c.requires.numbers_value) (length s.yielded) s.invariant.left c.in-None.ensures.steps in
+    let same : length c.put_head.new.out ≡ length c.args.out.now = search rules in
+    table_put l c.args.out.now c.requires.numbers_value c.requires.numbers_in_bounds e same (λ k. search rules) (λ k. omega (arith, c.type_inv.out k)) c.put_head.ensures s.invariant.put c.fill_byte.ensures

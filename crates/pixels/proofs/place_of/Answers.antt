@@ -1,28 +1,26 @@
 -- `pixels::place_of` meets its contract. Assumes nothing.
+use Rattle.std.proofs.Common.{sym, ◌∙◌}
+use Rattle.refusals.proofs.Results.{zero_if_ok, nonzero_if_err}
 use Rattle.ready.proofs.Ready.{lent}
-use Rattle.pixels.proofs.Parts.{refused, no_dc, no_surface, found}
+use Rattle.pixels.proofs.Parts.{refused, no_target, found}
 use Rattle.pixels.proofs.place_of.Goals as goal
 
-pub returns-then-common_refusal-ne0 : goal.returns-then-common_refusal-ne0
-returns-then-common_refusal-ne0 c =
-    refused _ _ _ _ c.common_refusal.ensures c.if-common_refusal-ne0.true
+pub returns-then-is_err : goal.returns-then-is_err
+returns-then-is_err c =
+    refused _ _ _ _ c.check.ensures (nonzero_if_err _ (sym c.is_err.ensures.value ∙ c.if-is_err.true))
 
 pub target_of-requires : goal.target_of-requires
 target_of-requires c =
-    let q = lent _ _ _ _ c.common_refusal.ensures c.if-common_refusal-ne0.false in
+    let q = lent _ _ _ _ c.check.ensures (zero_if_ok _ (sym c.is_err.ensures.value ∙ c.if-is_err.false)) in
     record {
       numbers_value = q.is_record_lem;
       numbers_value_2 = q.ready.sound;
     }
 
-pub returns-in-NoDc : goal.returns-in-NoDc
-returns-in-NoDc c =
-    no_dc _ _ _ _ c.common_refusal.ensures c.if-common_refusal-ne0.false c.target_of.ensures c.in-NoDc.is
+pub returns-in-Err : goal.returns-in-Err
+returns-in-Err c =
+    no_target _ _ _ _ c.check.ensures (zero_if_ok _ (sym c.is_err.ensures.value ∙ c.if-is_err.false)) c.target_of.ensures _ c.in-Err.is
 
-pub returns-in-NoSurface : goal.returns-in-NoSurface
-returns-in-NoSurface c =
-    no_surface _ _ _ _ c.common_refusal.ensures c.if-common_refusal-ne0.false c.target_of.ensures c.in-NoSurface.is
-
-pub returns-in-On : goal.returns-in-On
-returns-in-On c =
-    found _ _ _ _ c.common_refusal.ensures c.if-common_refusal-ne0.false c.target_of.ensures c.in-On.is
+pub returns-in-Ok : goal.returns-in-Ok
+returns-in-Ok c =
+    found _ _ _ _ c.check.ensures (zero_if_ok _ (sym c.is_err.ensures.value ∙ c.if-is_err.false)) c.target_of.ensures c.in-Ok.is

@@ -1,34 +1,21 @@
 -- `pixmap::write_picture` meets its contract: a picture, or none. Assumes nothing.
-use mathlib.Core.Path.{sym, ◌∙◌, ap}
-use lib.ListN.{length}
-use Rattle.p6.specs.Inner.{put}
-use Rattle.pixmap.specs.Pixmap.{picture_of}
-use Rattle.pixmap.proofs.Picture.{no_picture_lem, within}
+use mathlib.Core.Path.{sym, ◌∙◌}
+use native.Mathlib.Omega.{arith}
+use lib.Seq.{length-take-le}
+use Rattle.pixmap.proofs.Picture.{picture_short, picture_length_lem, picture_put}
 use Rattle.pixmap.proofs.write_picture.Goals as goal
 
-pub write_pixels-requires : goal.write_pixels-requires
-write_pixels-requires c =
-    record {
-      input_value = sym c.is_picture.ensures ∙ c.if-is_picture.true;
-      in_bounds = c.requires;
-    }
+-- the picture's part of the output has its length
+pub slice_bounds-write_ppm-end-3 : goal.slice_bounds-write_ppm-end-3
+slice_bounds-write_ppm-end-3 c =
+    sym (length-take-le c.ppm_len-n.result c.args.out.now (omega (arith, picture_short c.in-Some.ensures c.ppm_len-n.ensures)))
 
-pub returns-then-is_picture : goal.returns-then-is_picture
-returns-then-is_picture c =
-    let w = c.write_pixels.ensures in
-    record {
-      value = w.value;
-      bytes = w.bytes;
-      within = within c.args.out.now (picture_of c.args.input.now) w.value w.bytes;
-    }
+pub write_ppm-requires-clause-out_len : goal.write_ppm-requires-clause-out_len
+write_ppm-requires-clause-out_len c =
+    length-take-le c.ppm_len-n.result c.args.out.now (omega (arith, picture_short c.in-Some.ensures c.ppm_len-n.ensures)) ∙ c.ppm_len-n.ensures
 
-pub returns : goal.returns
-returns c =
-    let e = no_picture_lem c.args.input.now (sym c.is_picture.ensures ∙ c.if-is_picture.false) in
-    let n = c.put_bytes.ensures.value ∙ sym (ap length e) in
-    let m = c.put_bytes.ensures.bytes ∙ ap (put c.args.out.now 0) (sym e) in
-    record {
-      value = n;
-      bytes = m;
-      within = within c.args.out.now (picture_of c.args.input.now) n m;
-    }
+pub returns-clause-value : goal.returns-clause-value
+returns-clause-value c = picture_length_lem c.in-Some.ensures c.ppm_len-n.ensures
+
+pub returns-clause-bytes : goal.returns-clause-bytes
+returns-clause-bytes c = picture_put c.in-Some.ensures c.ppm_len-n.ensures c.args.out.now c.write_ppm.ensures

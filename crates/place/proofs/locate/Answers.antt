@@ -20,7 +20,7 @@ loop-i-init c =
 
 pub returns-then-numbers-p : goal.returns-then-numbers-p
 returns-then-numbers-p c =
-    located_seen c.args.numbers.now c.requires.numbers_value c.requires.numbers_value_2 c.loop-i.i c.loop-i-test.true c.loop-i.invariant.1.1.1 c.if-numbers-p.true c.frame-at.ensures
+    located_seen c.args.numbers.now c.requires.numbers_value c.requires.numbers_value_2 c.loop-i.i c.loop-i-test.true c.loop-i.invariant.1.1.1 c.if-numbers-p.true c.frame.ensures
 
 pub bytes_of-start-requires : goal.bytes_of-start-requires
 bytes_of-start-requires c =

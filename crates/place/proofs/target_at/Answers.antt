@@ -7,14 +7,14 @@ pub returns-in-Screen : goal.returns-in-Screen
 returns-in-Screen c =
     on_screen _ _ c.in-Screen.is c.where_is-site.ensures
 
-pub returns-in-Unset : goal.returns-in-Unset
-returns-in-Unset c =
-    unset (view c.args.numbers.now) c.args.d c.in-Created.is c.in-Unset.is
+pub returns-in_default : goal.returns-in_default
+returns-in_default c =
+    unset (view c.args.numbers.now) c.args.dc c.in-Created.is c.in_default.is
 
 pub returns-in-Nowhere : goal.returns-in-Nowhere
 returns-in-Nowhere c =
-    gone (view c.args.numbers.now) c.args.d c.in-Created.is c.in-Chosen.is c.where_is-site-in-Chosen.ensures c.in-Nowhere.is
+    gone (view c.args.numbers.now) c.args.dc c.in-Created.is c.in-Some.is c.where_is-site-in-Created.ensures c.in-Nowhere.is
 
 pub returns-in-At : goal.returns-in-At
 returns-in-At c =
-    on_bitmap (view c.args.numbers.now) c.args.d c.in-Created.is c.in-Chosen.is c.where_is-site-in-Chosen.ensures c.in-At.is
+    on_bitmap (view c.args.numbers.now) c.args.dc c.in-Created.is c.in-Some.is c.where_is-site-in-Created.ensures c.in-At.is

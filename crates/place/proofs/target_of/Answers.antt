@@ -3,10 +3,10 @@ use mathlib.Core.Path.{refl, sym, ◌∙◌}
 use Rattle.place.proofs.Targets.{found_target}
 use Rattle.place.proofs.target_of.Goals as goal
 
-pub returns-in-Is : goal.returns-in-Is
-returns-in-Is c =
-    found_target _ _ (sym c.find_dc.ensures ∙ c.in-Is.is) c.target_at.ensures
+pub returns-in-Some : goal.returns-in-Some
+returns-in-Some c =
+    found_target _ _ (sym c.find_dc.ensures ∙ c.in-Some.is) c.target_at.ensures
 
-pub returns-in-Absent : goal.returns-in-Absent
-returns-in-Absent c =
-    found_target _ _ (sym c.find_dc.ensures ∙ c.in-Absent.is) refl
+pub returns-in-None : goal.returns-in-None
+returns-in-None c =
+    found_target _ _ (sym c.find_dc.ensures ∙ c.in-None.is) refl

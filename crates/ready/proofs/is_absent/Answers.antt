@@ -1,39 +1,33 @@
 -- `ready::is_absent` meets its contract. Assumes nothing.
-use mathlib.Core.Path.{◌≡◌, refl, sym}
+use mathlib.Core.Bool.{Bool, not}
+use mathlib.Core.Path.{refl, ◌∙◌}
+use Prim.Native.Nat.{ℕ, ◌+◌, ◌≤◌}
 use native.Mathlib.Omega.{arith}
+use lib.Dec.{eqb}
+use lib.ListN.{length}
 use borrow.Author.Rules.{rules}
+use borrow.Author.Tests.{tests}
+use Rattle.std.proofs.lemmas.Iterator.{YieldsList-from_range, serves_from_Range}
+use Rattle.std.proofs.lemmas.Iterator.Search.{all_from_yields_List}
+use Rattle.numbers.specs.Layout.{slot_size, slot_place}
+use Rattle.numbers.specs.Block.{at}
 use Rattle.sound.proofs.Slots.{slot_room}
-use Rattle.ready.proofs.Handles.{same_seen, differs_seen}
+use Rattle.ready.proofs.Handles.{each_below, absent_seen}
 use Rattle.ready.proofs.is_absent.Goals as goal
-
-pub overflow_mul-h : goal.overflow_mul-h
-overflow_mul-h c =
-    omega (arith, slot_room _ c.requires.numbers_value _ c.requires.k_bound)
-
-pub overflow_add-h : goal.overflow_add-h
-overflow_add-h c =
-    omega (arith, slot_room _ c.requires.numbers_value _ c.requires.k_bound)
-
-pub offset_bounds-numbers-k : goal.offset_bounds-numbers-k
-offset_bounds-numbers-k c =
-    omega (arith, slot_room _ c.requires.numbers_value _ c.requires.k_bound)
 
 pub bounds-numbers-k : goal.bounds-numbers-k
 bounds-numbers-k c =
     omega (arith, slot_room _ c.requires.numbers_value _ c.requires.k_bound)
 
-pub loop-j-init : goal.loop-j-init
-loop-j-init c =
-    (search rules, (slot_room _ c.requires.numbers_value _ c.requires.k_bound, refl))
-
-pub returns-then-numbers-j : goal.returns-then-numbers-j
-returns-then-numbers-j c =
-    same_seen _ c.requires.numbers_value _ _ c.loop-j-test.true c.requires.k_bound c.if-numbers-j.true
-
-pub loop-j-preserved : goal.loop-j-preserved
-loop-j-preserved c =
-    (search rules, (search rules, differs_seen _ c.requires.numbers_value _ _ c.loop-j-test.true c.requires.k_bound c.loop-j.invariant.1.1 c.if-numbers-j.false))
+pub all-requires-clause-callable : goal.all-requires-clause-callable
+all-requires-clause-callable c =
+    let long : slot_place c.args.k + slot_size ≤ length c.args.numbers.now = slot_room _ c.requires.numbers_value _ c.requires.k_bound in
+    serves_from_Range (λ x q k. search (rules, tests)) (λ x p q. search rules)
 
 pub returns : goal.returns
 returns c =
-    let e : c.loop-j.j ≡ c.args.k = omega arith in sym (rw e at c.loop-j.invariant.1.1)
+    let l = c.args.numbers.now in
+    let k = c.args.k in
+    let differs : ℕ → Bool = λ j. not (eqb (at l (slot_place j)) (at l (slot_place k))) in
+    all_from_yields_List differs _ _ c.all.result c.all.ensures.ran (YieldsList-from_range 0 k k refl (omega arith)) (λ x b q e. search (rules, tests))
+    ∙ each_below k differs ∙ absent_seen l c.requires.numbers_value k c.requires.k_bound

@@ -1,12 +1,8 @@
-use mathlib.Core.Path.{◌≡◌}
-use Prim.Native.Nat.{ℕ, ◌+◌, ◌*◌, ◌-◌, ◌≤◌, ◌<◌}
-use lib.ListN.{length, get_or}
+-- the words up to i are inverted
+use Rattle.std.proofs.Common.{◌≡◌, ◌-◌}
 use Rattle.arithmetic.specs.Interval.{between}
-use Rattle.words.specs.Words.{written}
+use Rattle.words.specs.Words.{painted, word}
 use Rattle.runs.proofs.invert_run.Given as goal
 
-abbrev pub invariant-loop-k : goal.invariant-loop-k
-invariant-loop-k l = (l.mem ≡ written (between (2 * l.d) (2 * l.d + l.k)) (λ j. 255 - get_or l.initial.mem j 0) l.initial.mem) × ((length l.mem ≡ length l.initial.mem) × ((l.k ≤ 2 * l.n) × (0 < l.k → (j : ℕ) → get_or l.initial.mem j 0 < 256)))
-
-abbrev pub decreases-loop-k : goal.decreases-loop-k
-decreases-loop-k l = 2 * l.n - l.k
+abbrev pub invariant-loop-i : goal.invariant-loop-i
+invariant-loop-i l = l.mem ≡ painted (between l.d l.i) (λ i. 65535 - word l.initial.mem i) l.initial.mem

@@ -9,4 +9,4 @@ use Rattle.samples.proofs.write_rgba.Goals as goal
 pub returns : goal.returns
 returns c =
     let n = c.args.width * c.args.height in
-    (c.put_rgba_run.ensures ∙ put_all c.args.out.now (rgba_of c.args.pixels.now n) (c.requires.out_len ∙ sym (length_rgba c.args.pixels.now n)))
+    (c.put_run.ensures ∙ put_all c.args.out.now (rgba_of c.args.pixels.now n) (c.requires.out_len ∙ sym (length_rgba c.args.pixels.now n)))

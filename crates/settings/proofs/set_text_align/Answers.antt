@@ -1,21 +1,12 @@
 -- `settings::set_text_align` meets its contract. Assumes nothing.
-use mathlib.Core.Path.{refl, ap}
-use Rattle.lookup.proofs.HasDc.{has_dc}
+use mathlib.Core.Path.{refl}
+use borrow.Author.Rules.{rules}
 use Rattle.plan.specs.Answer.{answered}
-use Rattle.settings.proofs.Settings.{set_in_dc, set_no_dc}
+use Rattle.gdi.specs.Updates.{with_text_align}
+use Rattle.settings.proofs.Settings.{set_followed}
 use Rattle.settings.proofs.set_text_align.Goals as goal
 
-pub update_dc-requires : goal.update_dc-requires
-update_dc-requires c =
-    record {
-      numbers_value = c.requires.is_record_lem;
-      has_dc = has_dc c.find_dc.ensures c.in-Is.is;
-    }
-
-pub returns-in-Is : goal.returns-in-Is
-returns-in-Is c =
-    set_in_dc _ _ _ c.find_dc.ensures c.in-Is.is (ap answered c.with_text_align-set.ensures.0) refl c.with_text_align-set.ensures.1 c.update_dc.ensures
-
-pub returns-in-Absent : goal.returns-in-Absent
-returns-in-Absent c =
-    set_no_dc _ _ _ c.find_dc.ensures c.in-Absent.is c.requires.is_record_lem
+pub returns : goal.returns
+returns c =
+    set_followed (λ d. answered d.text_align) (λ d. with_text_align d c.args.align) (λ d. refl) c.args.dc c.set.result c.map.result c.requires.is_record_lem c.set.ensures.set c.set.ensures.kept c.map.ensures.cases
+    (λ d after o x changed answer. rw answer (search rules))

@@ -1,22 +1,12 @@
 -- `settings::set_text_color` meets its contract. Assumes nothing.
-use mathlib.Core.Path.{refl, ap}
-use Rattle.color.specs.declared.Colorref.{Colorref}
-use Rattle.lookup.proofs.HasDc.{has_dc}
+use mathlib.Core.Path.{refl}
+use borrow.Author.Rules.{rules}
 use Rattle.plan.specs.Answer.{answered}
-use Rattle.settings.proofs.Settings.{set_in_dc, set_no_dc}
+use Rattle.gdi.specs.Updates.{with_text_color}
+use Rattle.settings.proofs.Settings.{set_followed}
 use Rattle.settings.proofs.set_text_color.Goals as goal
 
-pub update_dc-requires : goal.update_dc-requires
-update_dc-requires c =
-    record {
-      numbers_value = c.requires.is_record_lem;
-      has_dc = has_dc c.find_dc.ensures c.in-Is.is;
-    }
-
-pub returns-in-Is : goal.returns-in-Is
-returns-in-Is c =
-    set_in_dc _ _ _ c.find_dc.ensures c.in-Is.is (ap (λ (x : Colorref). answered x.0) c.with_text_color-set.ensures.0) refl c.with_text_color-set.ensures.1 c.update_dc.ensures
-
-pub returns-in-Absent : goal.returns-in-Absent
-returns-in-Absent c =
-    set_no_dc _ _ _ c.find_dc.ensures c.in-Absent.is c.requires.is_record_lem
+pub returns : goal.returns
+returns c =
+    set_followed (λ d. answered d.text_color.0) (λ d. with_text_color d c.args.color) (λ d. refl) c.args.dc c.set.result c.map.result c.requires.is_record_lem c.set.ensures.set c.set.ensures.kept c.map.ensures.cases
+    (λ d after o x changed answer. rw answer (search rules))

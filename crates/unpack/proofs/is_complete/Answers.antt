@@ -1,4 +1,4 @@
--- `unpack::is_complete` meets its contract. The invariant: object i begins at bit `at`. Assumes nothing.
+-- `unpack::is_complete` meets its contract. The invariant: the next object begins at bit `at`. Assumes nothing.
 use mathlib.Core.Bool.{not}
 use mathlib.Core.List.{List}
 use mathlib.Core.Path.{◌≡◌, sym, ◌∙◌, ap}
@@ -28,9 +28,9 @@ pub returns-then-n-gt256 : goal.returns-then-n-gt256
 returns-then-n-gt256 c =
     too_many (bits_of c.args.bytes.now) (omega (arith, c.field_at-n.ensures))
 
-pub loop-i-init : goal.loop-i-init
-loop-i-init c =
-    (omega arith, (omega arith, (c.field_at-n.ensures, sym (start_none (bits_of c.args.bytes.now)))))
+pub loop-init : goal.loop-init
+loop-init c =
+    sym (start_none (bits_of c.args.bytes.now))
 
 -- where the loop stands is not far
 near : (bs : List ℕ) (i p : ℕ) → i ≤ 256 → p ≡ start_held bs i → p ≤ 100009
@@ -38,53 +38,51 @@ near bs i p h e = omega (arith, start_few bs i)
 
 pub overflow_add-at : goal.overflow_add-at
 overflow_add-at c =
-    omega (arith, near (bits_of c.args.bytes.now) c.loop-i.i c.loop-i.at (omega arith) c.loop-i.invariant.1.1.1)
+    omega (arith, near (bits_of c.args.bytes.now) c.loop.counter c.loop.at (omega arith) c.loop.invariant)
 
-pub has_bits-requires-in-loop-i : goal.has_bits-requires-in-loop-i
-has_bits-requires-in-loop-i c =
-    omega (arith, near (bits_of c.args.bytes.now) c.loop-i.i c.loop-i.at (omega arith) c.loop-i.invariant.1.1.1)
+pub has_bits-requires-in-loop : goal.has_bits-requires-in-loop
+has_bits-requires-in-loop c =
+    omega (arith, near (bits_of c.args.bytes.now) c.loop.counter c.loop.at (omega arith) c.loop.invariant)
 
 pub returns-then-not-has_bits-2 : goal.returns-then-not-has_bits-2
 returns-then-not-has_bits-2 c =
     let s = c.args.bytes.now in
     too_short (bits_of s) (omega (
       arith,
-      bits_missing s c.has_bits-in-loop-i.ensures (ap not c.if-not-has_bits-2.true),
-      c.loop-i.invariant.1.1.0,
-      c.loop-i.invariant.1.1.1,
-      c.loop-i-test.true,
-      start_next (bits_of s) c.loop-i.i (field_at (bits_of s) 62 9) (omega (arith, c.loop-i.invariant.1.1.0, c.loop-i-test.true)),
+      bits_missing s c.has_bits-in-loop.ensures (ap not c.if-not-has_bits-2.true),
+      c.loop.invariant,
+      start_next (bits_of s) c.loop.counter (field_at (bits_of s) 62 9) (omega (arith, c.field_at-n.ensures)),
     ))
 
 pub field_at-requires : goal.field_at-requires
 field_at-requires c =
     let s = c.args.bytes.now in
-    let h = bits_there s c.has_bits-in-loop-i.ensures (ap not c.if-not-has_bits-2.false) in
-    let g = near (bits_of c.args.bytes.now) c.loop-i.i c.loop-i.at (omega arith) c.loop-i.invariant.1.1.1 in
+    let h = bits_there s c.has_bits-in-loop.ensures (ap not c.if-not-has_bits-2.false) in
+    let g = near (bits_of c.args.bytes.now) c.loop.counter c.loop.at (omega arith) c.loop.invariant in
     field_there s (omega arith) (omega arith) (omega arith)
 
-pub overflow_add-at-in-loop-i : goal.overflow_add-at-in-loop-i
-overflow_add-at-in-loop-i c =
+pub overflow_add-at-in-loop : goal.overflow_add-at-in-loop
+overflow_add-at-in-loop c =
     omega (arith, c.object_bits.ensures, kind_total c.field_at.result)
 
-pub overflow_add-at-in-loop-i-2 : goal.overflow_add-at-in-loop-i-2
-overflow_add-at-in-loop-i-2 c =
-    omega (arith, c.object_bits.ensures, kind_total c.field_at.result, near (bits_of c.args.bytes.now) c.loop-i.i c.loop-i.at (omega arith) c.loop-i.invariant.1.1.1)
+pub overflow_add-at-in-loop-2 : goal.overflow_add-at-in-loop-2
+overflow_add-at-in-loop-2 c =
+    omega (arith, c.object_bits.ensures, kind_total c.field_at.result, near (bits_of c.args.bytes.now) c.loop.counter c.loop.at (omega arith) c.loop.invariant)
 
-pub loop-i-preserved : goal.loop-i-preserved
-loop-i-preserved c =
+pub loop-preserved : goal.loop-preserved
+loop-preserved c =
     let s = c.args.bytes.now in
-    let e = c.loop-i.invariant.1.1.1 in
-    let kind : c.field_at.result ≡ field_at (bits_of s) (start_held (bits_of s) c.loop-i.i) 3 = c.field_at.ensures ∙ ap (λ p. field_at (bits_of s) p 3) e in
-    let wide : c.object_bits.result ≡ total (widths_of (field_at (bits_of s) (start_held (bits_of s) c.loop-i.i) 3)) = c.object_bits.ensures ∙ ap (λ k. total (widths_of k)) kind in
-    (omega arith, (c.loop-i.invariant.1.0, (c.loop-i.invariant.1.1.0, omega (arith, wide, e, start_more (bits_of s) c.loop-i.i))))
+    let e = c.loop.invariant in
+    let kind : c.field_at.result ≡ field_at (bits_of s) (start_held (bits_of s) c.loop.counter) 3 = c.field_at.ensures ∙ ap (λ p. field_at (bits_of s) p 3) e in
+    let wide : c.object_bits.result ≡ total (widths_of (field_at (bits_of s) (start_held (bits_of s) c.loop.counter) 3)) = c.object_bits.ensures ∙ ap (λ k. total (widths_of k)) kind in
+    omega (arith, wide, e, start_more (bits_of s) c.loop.counter)
 
 pub has_bits-requires-2 : goal.has_bits-requires-2
 has_bits-requires-2 c =
-    omega (arith, start_few (bits_of c.args.bytes.now) c.loop-i.i)
+    omega (arith, start_few (bits_of c.args.bytes.now) c.loop.counter)
 
 pub returns : goal.returns
 returns c =
     let s = c.args.bytes.now in
-    let e : c.loop-i.i ≡ field_at (bits_of s) 62 9 = omega (arith, c.loop-i.invariant.1.1.0, c.loop-i-test.false) in
-    by_end (bits_of s) (omega (arith, c.loop-i.invariant.1.1.0)) (c.has_bits-2.ensures ∙ ap (λ p. leb p (length (bits_of s))) (c.loop-i.invariant.1.1.1 ∙ ap (start_held (bits_of s)) e))
+    let e : c.loop.counter ≡ field_at (bits_of s) 62 9 = omega (arith, c.field_at-n.ensures) in
+    by_end (bits_of s) (omega (arith, c.field_at-n.ensures)) (c.has_bits-2.ensures ∙ ap (λ p. leb p (length (bits_of s))) (c.loop.invariant ∙ ap (start_held (bits_of s)) e))
