@@ -21,5 +21,20 @@ pub fn move_run(mem: &mut [u8], d: usize, s: usize, n: usize)
     requires { (2 * (d + n) ≤ length mem.old) × (2 * (s + n) ≤ length mem.old) }
     ensures { mem.new ≡ painted (between d (d + n)) (λ i. word mem.old (s + (i - d))) mem.old }
 {
-    mem.copy_within(2 * s..2 * (s + n), 2 * d);
+    if n <= 4096 {
+        move_row(mem, d, s, n);
+    } else {
+        mem.copy_within(2 * s..2 * (s + n), 2 * d);
+    }
+}
+
+// move_run for a row of at most 4,096 words, through a buffer: the compiler makes block moves of it. copy_within is a loop in place,
+// and takes up to twice as long for long rows.
+fn move_row(mem: &mut [u8], d: usize, s: usize, n: usize)
+    requires { (n ≤ 4096) × ((2 * (d + n) ≤ length mem.old) × (2 * (s + n) ≤ length mem.old)) }
+    ensures { mem.new ≡ painted (between d (d + n)) (λ i. word mem.old (s + (i - d))) mem.old }
+{
+    let mut row = [0u8; 8192];
+    copy_run(&mut row, mem, 0, s, n);
+    copy_run(mem, &row, d, 0, n);
 }

@@ -1,4 +1,5 @@
-// Settings of one DC record, lent by `&mut` or by value.
+// Settings of one DC record, lent by `&mut` or by value. The law `setting_meets` speaks of the bodies of the first four: a value is read
+// and then written, where `mem::replace` would be a call.
 #![tactic(auto)]
 
 ghost use Rattle.std.specs.Prelude.{◌≡◌};
@@ -6,7 +7,6 @@ ghost use Rattle.gdi.specs.Updates.{with_text_color, with_text_align, with_bk_co
 
 use color::Colorref;
 use gdi::Dc;
-use std::mem;
 
 // A DC with a new setting, and the old one.
 #[derive(Clone, Copy)]
@@ -19,28 +19,36 @@ pub struct Change<T> {
 pub fn set_text_color(dc: &mut Dc, color: Colorref) -> Colorref
     ensures { (result ≡ dc.old.text_color) × (dc.new ≡ with_text_color dc.old color) }
 {
-    mem::replace(&mut dc.text_color, color)
+    let old = dc.text_color;
+    dc.text_color = color;
+    old
 }
 
 // Sets the text alignment; returns the old one.
 pub fn set_text_align(dc: &mut Dc, align: u32) -> u32
     ensures { (result ≡ dc.old.text_align) × (dc.new ≡ with_text_align dc.old align) }
 {
-    mem::replace(&mut dc.text_align, align)
+    let old = dc.text_align;
+    dc.text_align = align;
+    old
 }
 
 // Sets the background colour; returns the old one.
 pub fn set_bk_color(dc: &mut Dc, color: Colorref) -> Colorref
     ensures { (result ≡ dc.old.bk_color) × (dc.new ≡ with_bk_color dc.old color) }
 {
-    mem::replace(&mut dc.bk_color, color)
+    let old = dc.bk_color;
+    dc.bk_color = color;
+    old
 }
 
 // Sets the background mode; returns the old one.
 pub fn set_bk_mode(dc: &mut Dc, transparent: bool) -> bool
     ensures { (result ≡ dc.old.bk_transparent) × (dc.new ≡ with_bk_mode dc.old transparent) }
 {
-    mem::replace(&mut dc.bk_transparent, transparent)
+    let old = dc.bk_transparent;
+    dc.bk_transparent = transparent;
+    old
 }
 
 // set_text_color on a record by value.

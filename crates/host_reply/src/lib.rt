@@ -1,7 +1,7 @@
 // An answer as numbers, for hosts in other languages.
 #![tactic(auto)]
 
-ghost use Rattle.plan.specs.Answer.{parts_of};
+ghost use Rattle.plan.specs.Answer.{parts_of, refused};
 ghost use Rattle.host_reply.specs.Reply.{Replied};
 
 use numbers::OBJECT_SIZE;
@@ -38,15 +38,22 @@ impl Reply {
     };
 }
 
+// Returns the reply for a refusal of this number, whichever it is.
+pub fn refused(number: u32) -> Reply
+    ensures { Replied (refused number) result }
+{
+    Reply {
+        refusal: number,
+        ..Reply::DONE
+    }
+}
+
 // Returns the reply for an answer.
 pub fn reply_of(answer: Result<Answer, Refusal>) -> Reply
     ensures { Replied (parts_of answer) result }
 {
     match answer {
-        Err(refusal) => Reply {
-            refusal: refusal.number(),
-            ..Reply::DONE
-        },
+        Err(refusal) => refused(refusal.number()),
         Ok(Answer::Handle(value) | Answer::OldAlign(value)) => Reply {
             value,
             ..Reply::DONE

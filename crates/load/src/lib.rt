@@ -84,11 +84,15 @@ fn sizes_in(bytes: &[u8]) -> Option<Sizes>
 }
 
 // Returns whether the bytes are the table of a record.
+#[tactic(auto, using(bits::proofs::Lists::other_length))]
 fn is_table_of(numbers: &[u32], bytes: &[u8]) -> bool
     requires { is_record numbers.now ≡ true }
     ensures { result ≡ equal (saved_table (view numbers.now)) bytes.now }
 {
     let n = pack::table_len(numbers);
+    if n != bytes.len() {
+        return false;
+    }
     let mut table = [0u8; MAX_TABLE];
     pack::put_table(numbers, &mut table);
     bits::is_equal(&table[..n], bytes)

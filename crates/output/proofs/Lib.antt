@@ -1,3 +1,4 @@
 pub mod Counting
+pub mod Padding
 pub mod Powers
 pub mod Signed

@@ -12,9 +12,9 @@ pub use number::{decimal, hex};
 use std::io;
 use std::marker::Model;
 
-// The first len bytes are the line so far: the programs use no heap. The longest line, with a removed DC, has at most 141 bytes
-// with its end.
-#[derive(Drop)]
+// The first len bytes are the line so far, and those behind them are 0: the programs use no heap. The longest line, with a removed
+// DC, has at most 141 bytes with its end.
+#[derive(Clone, Copy)]
 pub struct Line {
     bytes: [u8; 160],
     len: usize,
@@ -22,11 +22,19 @@ pub struct Line {
 
 // Clauses see the characters so far.
 impl Model for Line {
+    ghost use Rattle.std.specs.Prelude.{List, ℕ, ◌++◌, length, take};
+    ghost use Rattle.std.proofs.Common.{length-take-le};
+    ghost use Rattle.output.specs.Padded.{padding, IsPadded, text_padded};
+
     ghost Value = { List ℕ };
 
     ghost view = { λ l. take l.len l.bytes };
 
-    ghost invariant = { λ l. l.len ≤ 160 };
+    ghost invariant = { λ l. IsPadded l.len l.bytes };
+
+    ghost inverse = { λ t. record { bytes = t ++ padding (length t); len = length t } };
+
+    ghost inverse_ok = { λ l h i. record { bytes = text_padded l.len l.bytes h i; len = length-take-le l.len l.bytes h.0 i } };
 }
 
 // An empty line.
@@ -138,11 +146,25 @@ impl Line {
         }
     }
 
+    // The characters so far.
+    pub fn bytes(&self) -> &[u8]
+        ensures { result.now ≡ self.now }
+    {
+        let line = self;
+        &line.bytes[..line.len]
+    }
+
+    // How many characters there are.
+    pub fn len(&self) -> usize
+        ensures { result ≡ length self.now }
+    {
+        self.bytes().len()
+    }
+
     // Writes the line and a newline, in one call.
     pub fn print(self, rt: &impl Print) -> io::Result<()>
         requires { length self < 160 }
     {
-        let line = self.put(b'\n');
-        rt.write_all(&line.bytes[..line.len])
+        rt.write_all(self.put(b'\n').bytes())
     }
 }

@@ -5,7 +5,7 @@ use output::Line;
 use std::io;
 
 // What a case prints, and its length in the script.
-#[derive(Drop)]
+#[derive(Clone, Copy)]
 pub struct Reply {
     pub size: usize,
     pub line: Line,

@@ -32,3 +32,7 @@ module _ (width height len : ℕ) where
     pub order_accepted : refusal width height len ≡ 0
     unfolding refusal_for
     order_accepted = grind (arith, nat_tests)
+
+    pub order_accepted_from : {src-w src-h : ℕ} → src-w ≤ 4096 → src-h ≤ 4096 → refusal_from width height src-w src-h len ≡ 0
+    unfolding refusal_for
+    order_accepted_from p q = grind (arith, nat_tests)

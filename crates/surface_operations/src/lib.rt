@@ -1,4 +1,5 @@
-// The operations on a surface struct. Each takes it apart and calls the function on slice and numbers.
+// The operations on a surface struct. Each takes it apart and calls the function on slice and numbers. The law
+// `apart_meets` speaks of these bodies, which read the sides in the call that is lent the pixels; it proves each of them.
 #![tactic(auto)]
 
 ghost use Rattle.fill.specs.Fill.{FillRect, FillRectRop};
@@ -23,12 +24,7 @@ pub fn fill_rect<'a>(
 ) -> Result<bool, Refusal>
     ensures { On s.entry (FillRect x y w h color.0) (drawn result) s.exit.0.now }
 {
-    let Surface {
-        pixels,
-        width,
-        height,
-    } = s;
-    fill::fill_rect(pixels, width, height, x, y, w, h, color)
+    fill::fill_rect(&mut *s.pixels, s.width, s.height, x, y, w, h, color)
 }
 
 // Combines pattern and destination under a raster code at the w by h pixels at x, y. The source operand is 0.
@@ -43,12 +39,7 @@ pub fn fill_rect_rop<'a>(
 ) -> Result<bool, Refusal>
     ensures { On s.entry (FillRectRop x y w h pat.0 rop) (drawn result) s.exit.0.now }
 {
-    let Surface {
-        pixels,
-        width,
-        height,
-    } = s;
-    fill::fill_rect_rop(pixels, width, height, x, y, w, h, pat, rop)
+    fill::fill_rect_rop(&mut *s.pixels, s.width, s.height, x, y, w, h, pat, rop)
 }
 
 // Draws the outline of the w by h pixels at x, y, one pixel thick.
@@ -62,12 +53,7 @@ pub fn stroke_rect<'a>(
 ) -> Result<bool, Refusal>
     ensures { On s.entry (StrokeRect x y w h color.0) (drawn result) s.exit.0.now }
 {
-    let Surface {
-        pixels,
-        width,
-        height,
-    } = s;
-    outline::stroke_rect(pixels, width, height, x, y, w, h, color)
+    outline::stroke_rect(&mut *s.pixels, s.width, s.height, x, y, w, h, color)
 }
 
 // Blits the w by h pixels at sx, sy of src to dx, dy under a raster code.
@@ -87,13 +73,21 @@ pub fn blit_from_bytes_rop<'a>(
 ) -> Result<bool, Refusal>
     ensures { On s.entry (BlitBytes dx dy sx sy w h src.now src_w src_h rop pat.0) (drawn result) s.exit.0.now }
 {
-    let Surface {
-        pixels,
-        width,
-        height,
-    } = s;
     blit::blit_from_bytes_rop(
-        pixels, width, height, dx, dy, sx, sy, w, h, src, src_w, src_h, rop, pat,
+        &mut *s.pixels,
+        s.width,
+        s.height,
+        dx,
+        dy,
+        sx,
+        sy,
+        w,
+        h,
+        src,
+        src_w,
+        src_h,
+        rop,
+        pat,
     )
 }
 
@@ -107,12 +101,7 @@ pub fn draw_char<'a>(
 ) -> Result<bool, Refusal>
     ensures { On s.entry (DrawChar x y ch color.0) (drawn result) s.exit.0.now }
 {
-    let Surface {
-        pixels,
-        width,
-        height,
-    } = s;
-    text::draw_char(pixels, width, height, x, y, ch, color)
+    text::draw_char(&mut *s.pixels, s.width, s.height, x, y, ch, color)
 }
 
 // Draws the text before unit 0 or the end, with its upper left corner at x, y.
@@ -125,10 +114,5 @@ pub fn draw_str_u16<'a>(
 ) -> Result<u32, Refusal>
     ensures { On s.entry (DrawStr x y units.now color.0) (advanced result) s.exit.0.now }
 {
-    let Surface {
-        pixels,
-        width,
-        height,
-    } = s;
-    text::draw_str_u16(pixels, width, height, x, y, units, color)
+    text::draw_str_u16(&mut *s.pixels, s.width, s.height, x, y, units, color)
 }
